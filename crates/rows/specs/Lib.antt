@@ -1,0 +1,5 @@
+pub mod Plans
+pub mod Refusals
+pub mod Sections
+pub mod Sound
+pub mod Verdicts
