@@ -7,6 +7,7 @@ ghost use Rattle.rows.specs.Plans.{countsOf};
 ghost use Rattle.rows.specs.Sections.{countOf};
 ghost use Rattle.rows.specs.Sound.{weightsOf};
 ghost use Rattle.rows.specs.Verdicts.{changeRules, comparisonRules, firstBroken, goalRules, missing, outcomeRules, recordRules, rowsFault, sectionFault, stageRules, timerRules};
+use crate::records::Records;
 use rows::fault::Fault;
 use rows::fault::Where;
 use rows::refusal::Refusal;
@@ -19,7 +20,6 @@ use rows::tables::GoalRow;
 use rows::tables::OutcomeRow;
 use rows::tables::StageRow;
 use rows::tables::TimerRow;
-use crate::records::Records;
 
 // Whether a list of n rows from `first` on passes the end of its section. An empty one names nothing.
 fn is_missing(first: u16, n: u16, count: usize) -> bool
@@ -31,7 +31,11 @@ fn is_missing(first: u16, n: u16, count: usize) -> bool
 fn timer_breaks(t: TimerRow) -> Option<Refusal>
     ensures { λ r. ⌜ r ≡ firstBroken (timerRules t) ⌝ }
 {
-    if t.ceiling == 0 { Some(Refusal::BadField) } else { None }
+    if t.ceiling == 0 {
+        Some(Refusal::BadField)
+    } else {
+        None
+    }
 }
 
 fn comparison_breaks(counts: &Counts, c: ComparisonRow) -> Option<Refusal>
@@ -80,7 +84,11 @@ fn outcome_breaks(counts: &Counts, o: OutcomeRow) -> Option<Refusal>
     if o.stage as usize >= counts.stages || resets_pass(o.resets, counts.timers) {
         return Some(Refusal::NotThere);
     }
-    if o.weight == 0 { Some(Refusal::BadWeight) } else { None }
+    if o.weight == 0 {
+        Some(Refusal::BadWeight)
+    } else {
+        None
+    }
 }
 
 fn goal_breaks(counts: &Counts, g: GoalRow) -> Option<Refusal>
@@ -89,7 +97,11 @@ fn goal_breaks(counts: &Counts, g: GoalRow) -> Option<Refusal>
     if g.comparisons > 32 {
         return Some(Refusal::CountOffLimits);
     }
-    if is_missing(g.first, g.comparisons, counts.comparisons) { Some(Refusal::NotThere) } else { None }
+    if is_missing(g.first, g.comparisons, counts.comparisons) {
+        Some(Refusal::NotThere)
+    } else {
+        None
+    }
 }
 
 // The sum of the weights of a change's outcomes.
@@ -119,7 +131,11 @@ fn change_breaks<R: Records>(rows: &R, c: ChangeRow) -> Option<Refusal>
     if is_missing(c.first_outcome, c.outcomes, counts.outcomes) {
         return Some(Refusal::NotThere);
     }
-    if weights(rows, c) > 65535 { Some(Refusal::BadWeight) } else { None }
+    if weights(rows, c) > 65535 {
+        Some(Refusal::BadWeight)
+    } else {
+        None
+    }
 }
 
 // The refusal for the first rule that one record breaks.
@@ -145,7 +161,10 @@ fn section_fault<R: Records>(rows: &R, section: SectionName) -> Option<Fault>
     let count = rows.counts().of(section);
     for i in 0..count {
         if let Some(refusal) = record_breaks(rows, section, i) {
-            return Some(Fault { refusal, at: Where::Record(section, i) });
+            return Some(Fault {
+                refusal,
+                at: Where::Record(section, i),
+            });
         }
     }
     None

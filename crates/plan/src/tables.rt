@@ -27,7 +27,11 @@ fn count_breaks(rooms: &Counts, n: &Counts, section: SectionName) -> Option<Refu
     if count < section.least() || count > section.most() {
         return Some(Refusal::CountOffLimits);
     }
-    if count > rooms.of(section) { Some(Refusal::TableTooSmall) } else { None }
+    if count > rooms.of(section) {
+        Some(Refusal::TableTooSmall)
+    } else {
+        None
+    }
 }
 
 // The first count that is off its limits or does not fit its table.
@@ -36,7 +40,10 @@ fn counts_fault(rooms: &Counts, n: &Counts) -> Option<Fault>
 {
     for section in SECTIONS {
         if let Some(refusal) = count_breaks(rooms, n, section) {
-            return Some(Fault { refusal, at: Where::Section(section) });
+            return Some(Fault {
+                refusal,
+                at: Where::Section(section),
+            });
         }
     }
     None

@@ -68,7 +68,7 @@ comparison-sound p c h =
       blank = grind (arith, tells);
       single = grind (arith, tells);
       timer = grind (arith, tells);
-      other = grind (arith, tells)
+      other = grind (arith, tells);
     }
 
 comparison-keeps : (p : PlanRows) (c : ComparisonRow) → SoundComparison p c → Kept (comparisonRules (countsOf p) c)
@@ -82,7 +82,7 @@ stage-sound p s h =
       few-holds = grind (arith, tells);
       few-changes = grind (arith, tells);
       hold-inside = grind (arith, tells);
-      changes-inside = grind (arith, tells)
+      changes-inside = grind (arith, tells);
     }
 
 stage-keeps : (p : PlanRows) (s : StageRow) → SoundStage p s → Kept (stageRules (countsOf p) s)
@@ -97,7 +97,7 @@ change-sound p c h =
       few-outcomes = grind (arith, tells);
       guard-inside = grind (arith, tells);
       outcomes-inside = grind (arith, tells);
-      weights = grind (arith, tells)
+      weights = grind (arith, tells);
     }
 
 change-keeps : (p : PlanRows) (c : ChangeRow) → SoundChange p c → Kept (changeRules p c)
@@ -126,7 +126,7 @@ or-else-none (Some f) b h = absurd (let z : _≡_ {A = ℕ} 0 1 = cc in omega ar
 none-or-else : (a b : Option Fault) → a ≡ None → b ≡ None → orElse a b ≡ None
 none-or-else a b e f = ap (λ z. orElse z b) e ∙ f
 
-fault-at-none : (w : Where) (o : Option Refusal) → faultAt w o ≡ None → o ≡ None
+pub fault-at-none : (w : Where) (o : Option Refusal) → faultAt w o ≡ None → o ≡ None
 fault-at-none w None h = refl
 fault-at-none w (Some e) h = absurd (let z : _≡_ {A = ℕ} 0 1 = cc in omega arith)
 
@@ -156,7 +156,7 @@ kept-section p s i zero h = fault-from-none p s i
 kept-section p s i (suc n) h =
     fault-from-suc p s i n
     ∙ none-or-else (recordFault p s i) (faultFrom p s (i + 1) n) (kept-record p s i (h i (omega arith)))
-      (kept-section p s (i + 1) n (λ k l. h k (omega arith)))
+    (kept-section p s (i + 1) n (λ k l. h k (omega arith)))
 
 -- some sections have no fault exactly if each of them has none
 
@@ -187,25 +187,32 @@ counts-within rooms n h s =
     let kept = kept-from-none (countRules rooms n s) (fault-at-none (Section s) (firstBroken (countRules rooms n s)) counted) in
     (grind (arith, tells), grind (arith, tells), grind (arith, tells))
 
+-- rows without a fault, as many as are allowed, make a sound plan
+pub sound-from-rows : (p : PlanRows) → ((s : SectionName) → leastOf s ≤ countOf (countsOf p) s) → ((s : SectionName) → countOf (countsOf p) s ≤ mostOf s) → rowsFault p ≡ None → Sound p
+sound-from-rows p enough bounded none =
+    let clear : (s : SectionName) → sectionFault p s ≡ None = each-section (λ s. sectionFault p s ≡ None) (sections-none (sectionFault p) sectionNames none) in
+    let rules : (s : SectionName) (k : ℕ) → k < countOf (countsOf p) s → Kept (recordRules p s k) = λ s k l. section-kept p s 0 (countOf (countsOf p) s) (clear s) k (omega arith) (omega arith) in
+    record {
+      enough = enough;
+      bounded = bounded;
+      timers = all-from-getD SoundTimer (p .timers) noTimer (λ k l. timer-sound (getD (p .timers) k noTimer) (rules Timers k l));
+      comparisons = all-from-getD (SoundComparison p) (p .comparisons) noComparison (λ k l. comparison-sound p (getD (p .comparisons) k noComparison) (rules Comparisons k l));
+      stages = all-from-getD (SoundStage p) (p .stages) noStage (λ k l. stage-sound p (getD (p .stages) k noStage) (rules Stages k l));
+      changes = all-from-getD (SoundChange p) (p .changes) noChange (λ k l. change-sound p (getD (p .changes) k noChange) (rules Changes k l));
+      outcomes = all-from-getD (SoundOutcome p) (p .outcomes) noOutcome (λ k l. outcome-sound p (getD (p .outcomes) k noOutcome) (rules Outcomes k l));
+      goals = all-from-getD (SoundGoal p) (p .goals) noGoal (λ k l. goal-sound p (getD (p .goals) k noGoal) (rules Goal k l));
+    }
+
 -- no fault in handed tables means that they fit and the plan in them is sound
 pub sound-from-none : (rooms n : Counts) (p : PlanRows) → countsOf p ≡ n → tablesFault rooms n p ≡ None → Fits n rooms × Sound p
 sound-from-none rooms n p e h =
     let both = or-else-none (firstIn (countFault rooms n) sectionNames) (rowsFault p) h in
-    let limits = counts-within rooms n (both .0) in
-    let clear : (s : SectionName) → sectionFault p s ≡ None = each-section (λ s. sectionFault p s ≡ None) (sections-none (sectionFault p) sectionNames (both .1)) in
-    let rules : (s : SectionName) (k : ℕ) → k < countOf (countsOf p) s → Kept (recordRules p s k) = λ s k l. section-kept p s 0 (countOf (countsOf p) s) (clear s) k (omega arith) (omega arith) in
-    (
+    let limits = counts-within rooms n (both .0) in (
       (λ s. limits s .2),
-      record {
-        enough = λ s. let l = limits s in let same = ap (λ z. countOf z s) e in omega arith;
-        bounded = λ s. let l = limits s in let same = ap (λ z. countOf z s) e in omega arith;
-        timers = all-from-getD SoundTimer (p .timers) noTimer (λ k l. timer-sound (getD (p .timers) k noTimer) (rules Timers k l));
-        comparisons = all-from-getD (SoundComparison p) (p .comparisons) noComparison (λ k l. comparison-sound p (getD (p .comparisons) k noComparison) (rules Comparisons k l));
-        stages = all-from-getD (SoundStage p) (p .stages) noStage (λ k l. stage-sound p (getD (p .stages) k noStage) (rules Stages k l));
-        changes = all-from-getD (SoundChange p) (p .changes) noChange (λ k l. change-sound p (getD (p .changes) k noChange) (rules Changes k l));
-        outcomes = all-from-getD (SoundOutcome p) (p .outcomes) noOutcome (λ k l. outcome-sound p (getD (p .outcomes) k noOutcome) (rules Outcomes k l));
-        goals = all-from-getD (SoundGoal p) (p .goals) noGoal (λ k l. goal-sound p (getD (p .goals) k noGoal) (rules Goal k l))
-      }
+      sound-from-rows p
+          (λ s. let l = limits s in let same = ap (λ z. countOf z s) e in omega arith)
+          (λ s. let l = limits s in let same = ap (λ z. countOf z s) e in omega arith)
+          (both .1),
     )
 
 record-keeps : (p : PlanRows) → Sound p → (s : SectionName) (k : ℕ) → k < countOf (countsOf p) s → Kept (recordRules p s k)
@@ -225,14 +232,14 @@ no-row-fault p h =
 pub none-from-sound : (rooms n : Counts) (p : PlanRows) → countsOf p ≡ n → Fits n rooms → Sound p → tablesFault rooms n p ≡ None
 none-from-sound rooms n p e fits h =
     let kept : (s : SectionName) → Kept (countRules rooms n s) = λ s.
-      let same = ap (λ z. countOf z s) e in
-      let low = h .enough s in
-      let high = h .bounded s in
-      let room = fits s in
-      (grind (arith, tells), (grind (arith, tells), tt)) in
+    let same = ap (λ z. countOf z s) e in
+    let low = h .enough s in
+    let high = h .bounded s in
+    let room = fits s in
+    (grind (arith, tells), (grind (arith, tells), tt)) in
     none-or-else (firstIn (countFault rooms n) sectionNames) (rowsFault p)
     (none-sections (countFault rooms n) sectionNames
-      (λ s. ap (faultAt (Section s)) (none-from-kept (countRules rooms n s) (kept s))))
+    (λ s. ap (faultAt (Section s)) (none-from-kept (countRules rooms n s) (kept s))))
     (no-row-fault p h)
 
 -- a plan breaks no rule exactly if it is sound
@@ -264,15 +271,14 @@ front-counts n p h =
 
 -- whether handed tables have no fault is whether they fit and hold a sound plan
 pub verdict-decides : (n : Counts) (p : PlanRows) → Decides (not (isSome (tablesFault (countsOf p) n (front n p)))) (Fits n (countsOf p) × Sound (front n p))
-verdict-decides n p =
-    (
-      (λ t.
-        let none = none-from-test (tablesFault (countsOf p) n (front n p)) t in
-        let counted = or-else-none (firstIn (countFault (countsOf p) n) sectionNames) (rowsFault (front n p)) none in
-        let fits : Fits n (countsOf p) = λ s. counts-within (countsOf p) n (counted .0) s .2 in
-        sound-from-none (countsOf p) n (front n p) (front-counts n p fits) none),
-      (λ h. ap (λ o. not (isSome o)) (none-from-sound (countsOf p) n (front n p) (front-counts n p (h .0)) (h .0) (h .1)))
-    )
+verdict-decides n p = (
+  (λ t.
+      let none = none-from-test (tablesFault (countsOf p) n (front n p)) t in
+      let counted = or-else-none (firstIn (countFault (countsOf p) n) sectionNames) (rowsFault (front n p)) none in
+      let fits : Fits n (countsOf p) = λ s. counts-within (countsOf p) n (counted .0) s .2 in
+      sound-from-none (countsOf p) n (front n p) (front-counts n p fits) none),
+  (λ h. ap (λ o. not (isSome o)) (none-from-sound (countsOf p) n (front n p) (front-counts n p (h .0)) (h .0) (h .1))),
+)
 
 -- the same, at an answer that tells the verdict
 pub decides-from-verdict : (n : Counts) (p : PlanRows) (r : Bool) (o : Option Fault) → tablesFault (countsOf p) n (front n p) ≡ o → not (isSome o) ≡ r → Decides r (Fits n (countsOf p) × Sound (front n p))

@@ -1,3 +1,4 @@
+pub mod Files
 pub mod Plans
 pub mod Refusals
 pub mod Sections

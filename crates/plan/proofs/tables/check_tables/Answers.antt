@@ -25,10 +25,10 @@ returns-in-Some c =
     let f = c .in-Some .fault in
     let found = counted (c .counts .result) (c .args .n) p (Some f) (c .counts .ensures) (c .in-Some .ensures tt) in
     let verdict : tablesFault (countsOf p) (c .args .n) (front (c .args .n) p) ≡ Some f =
-      ap (λ z. orElse z (rowsFault (front (c .args .n) p))) found in
+    ap (λ z. orElse z (rowsFault (front (c .args .n) p))) found in
     record {
       answer = verdict;
-      tables-pass-exactly-if-they-are-sound = decides-from-verdict (c .args .n) p false (Some f) verdict refl
+      tables-pass-exactly-if-they-are-sound = decides-from-verdict (c .args .n) p false (Some f) verdict refl;
     }
 
 pub cut-rows-requires : need.cut-rows-requires
@@ -44,7 +44,7 @@ returns-in-Some-rows-fault c =
     let verdict = by-rows (c .args .n) p (heldBy (c .cut-rows .result)) (Some f) none (c .cut-rows .ensures) (c .in-Some-rows-fault .ensures tt) in
     record {
       answer = verdict;
-      tables-pass-exactly-if-they-are-sound = decides-from-verdict (c .args .n) p false (Some f) verdict refl
+      tables-pass-exactly-if-they-are-sound = decides-from-verdict (c .args .n) p false (Some f) verdict refl;
     }
 
 pub returns : need.returns
@@ -54,5 +54,5 @@ returns c =
     let verdict = by-rows (c .args .n) p (heldBy (c .cut-rows .result)) None none (c .cut-rows .ensures) (c .in-rest-rows-fault .ensures tt) in
     record {
       answer = verdict;
-      tables-pass-exactly-if-they-are-sound = decides-from-verdict (c .args .n) p true None verdict refl
+      tables-pass-exactly-if-they-are-sound = decides-from-verdict (c .args .n) p true None verdict refl;
     }

@@ -1,0 +1,4 @@
+pub mod Filling
+pub mod Gathered
+pub mod Parts
+pub mod Split

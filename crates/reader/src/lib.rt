@@ -1,0 +1,6 @@
+// The reader of plan files.
+mod bytes;
+mod fill;
+mod parts;
+pub mod read;
+mod section;
