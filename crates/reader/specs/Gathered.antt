@@ -1,5 +1,5 @@
 -- What tables that are to be filled hold.
-use denote.Ref.{now}
+use denote.Ref.{RefT, now}
 use mathlib.Core.List.{List}
 use Rattle.reader.specs.declared.read.TablesMut.{TablesMut}
 use Rattle.rows.specs.declared.tables.TimerRow.{TimerRow}
@@ -15,7 +15,12 @@ abbrev pub rowsHeld : List TimerRow → List ComparisonRow → List StageRow →
 rowsHeld timers comparisons stages changes outcomes goals =
     record { timers = timers; comparisons = comparisons; stages = stages; changes = changes; outcomes = outcomes; goals = goals }
 
--- the rows that the handed tables hold
+-- the rows that the handed tables hold when the call ends
+abbrev pub leftIn : RefT (List TimerRow) × (RefT (List ComparisonRow) × (RefT (List StageRow) × (RefT (List ChangeRow) × (RefT (List OutcomeRow) × (RefT (List GoalRow) × Unit {0}))))) → PlanRows
+leftIn t =
+    rowsHeld (now (t .0)) (now (t .1 .0)) (now (t .1 .1 .0)) (now (t .1 .1 .1 .0)) (now (t .1 .1 .1 .1 .0)) (now (t .1 .1 .1 .1 .1 .0))
+
+-- the rows that the handed tables hold when the call begins
 abbrev pub gathered : TablesMut → PlanRows
 gathered t =
     rowsHeld (now (t .timers)) (now (t .comparisons)) (now (t .stages)) (now (t .changes)) (now (t .outcomes)) (now (t .goals))

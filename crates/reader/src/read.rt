@@ -6,7 +6,7 @@ ghost use Rattle.std.specs.declared.option.Option.the-variants.{Some};
 ghost use Rattle.rows.specs.Files.{Read, fileFault};
 ghost use Rattle.rows.specs.Plans.{PlanRows, countsOf, fileOf, front};
 ghost use Rattle.rows.specs.Sound.{Fits, Sound};
-ghost use Rattle.reader.specs.Gathered.{gathered, rowsHeld};
+ghost use Rattle.reader.specs.Gathered.{gathered, leftIn};
 use crate::bytes::ChangeInFile;
 use crate::bytes::ComparisonInFile;
 use crate::bytes::GoalInFile;
@@ -53,8 +53,8 @@ fn rooms(tables: &TablesMut<'_>) -> Counts
 
 // Reads a plan file into handed tables and answers how many rows each section has. A file that breaks a rule leaves every table as it was.
 pub fn read(bytes: &[u8], tables: TablesMut<'_>) -> Result<Counts, Fault>
-    ensures answer { λ r. ⌜ Cases r (λ n. Read (now (bytes .entry)) (gathered (tables .entry)) (rowsHeld (now (tables .exit .0)) (now (tables .exit .1 .0)) (now (tables .exit .1 .1 .0)) (now (tables .exit .1 .1 .1 .0)) (now (tables .exit .1 .1 .1 .1 .0)) (now (tables .exit .1 .1 .1 .1 .1 .0))) n) (λ f. (fileFault (countsOf (gathered (tables .entry))) (now (bytes .entry)) ≡ Some f) × (rowsHeld (now (tables .exit .0)) (now (tables .exit .1 .0)) (now (tables .exit .1 .1 .0)) (now (tables .exit .1 .1 .1 .0)) (now (tables .exit .1 .1 .1 .1 .0)) (now (tables .exit .1 .1 .1 .1 .1 .0)) ≡ gathered (tables .entry))) ⌝ }
-    ensures the_file_of_every_sound_plan_that_fits_is_read_back { λ r. ⌜ ((p : PlanRows) → Sound p → Fits (countsOf p) (countsOf (gathered (tables .entry))) → now (bytes .entry) ≡ fileOf p → Cases r (λ n. front n (rowsHeld (now (tables .exit .0)) (now (tables .exit .1 .0)) (now (tables .exit .1 .1 .0)) (now (tables .exit .1 .1 .1 .0)) (now (tables .exit .1 .1 .1 .1 .0)) (now (tables .exit .1 .1 .1 .1 .1 .0))) ≡ p) (λ _. ⊥)) ⌝ }
+    ensures answer { λ r. ⌜ Cases r (λ n. Read (now (bytes .entry)) (gathered (tables .entry)) (leftIn (tables .exit)) n) (λ f. (fileFault (countsOf (gathered (tables .entry))) (now (bytes .entry)) ≡ Some f) × (leftIn (tables .exit) ≡ gathered (tables .entry))) ⌝ }
+    ensures the_file_of_every_sound_plan_that_fits_is_read_back { λ r. ⌜ ((p : PlanRows) → Sound p → Fits (countsOf p) (countsOf (gathered (tables .entry))) → now (bytes .entry) ≡ fileOf p → Cases r (λ n. front n (leftIn (tables .exit)) ≡ p) (λ _. ⊥)) ⌝ }
 {
     let parts = sound_parts(&rooms(&tables), bytes)?;
     let counts = parts.counts();

@@ -1,3 +1,4 @@
+pub mod Cuts
 pub mod Faults
 pub mod Files
 pub mod Fills

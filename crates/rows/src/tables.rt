@@ -1,4 +1,6 @@
 // The rows of a plan's six tables: plain numbers, as the plan file has them.
+ghost use lib.ListN.{drop, take};
+ghost use mathlib.Core.Path.{_≡_};
 
 // A timer and the seconds it never passes.
 #[derive(Clone, Copy, Debug, PartialEq, Eq, Default)]
@@ -48,4 +50,13 @@ pub struct OutcomeRow {
 pub struct GoalRow {
     pub first: u16,
     pub comparisons: u16,
+}
+
+// The n rows from the row `first` on, as far as there are any.
+pub fn part<T>(rows: &[T], first: u16, n: u16) -> &[T]
+    ensures { λ r. ⌜ now r ≡ take n (drop first (now (rows .entry))) ⌝ }
+{
+    let start = (first as usize).min(rows.len());
+    let end = (first as usize + n as usize).min(rows.len());
+    &rows[start..end]
 }

@@ -1,0 +1,3 @@
+// Plans and refusals in words.
+pub mod faults;
+pub mod plans;
