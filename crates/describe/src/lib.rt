@@ -1,3 +1,4 @@
-// Plans and refusals in words.
+// Plans, regions and refusals in words.
 pub mod faults;
 pub mod plans;
+pub mod regions;

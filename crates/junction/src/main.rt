@@ -1,6 +1,7 @@
 // The command-line program: it reads plan files and tells what is in them.
 mod commands;
 mod files;
+mod walk;
 
 use std::env;
 use std::error::AnyError;
@@ -9,6 +10,9 @@ const USAGE: &str = "junction: runs signal plans over timer regions
 
 usage:
   junction check FILE    say what is in a plan file, or which rule it breaks
+  junction regions FILE MOVE..
+                         walk the plan's timers from zero and print each region;
+                         a MOVE is 'wait STEPS' or 'reset x0,x2'
   junction help          print this text
 ";
 
@@ -27,6 +31,10 @@ fn run(rt: &LibcRuntime) -> Result<(), AnyError> {
         "check" => match args.next() {
             Some(path) => commands::check(rt, path.as_str()),
             None => Err("check takes a plan file: junction check FILE".into()),
+        },
+        "regions" => match args.next() {
+            Some(path) => walk::regions(rt, path.as_str(), &mut args),
+            None => Err("regions takes a plan file: junction regions FILE MOVE..".into()),
         },
         _ => Err("there is no such command: 'junction help' lists them".into()),
     }

@@ -1,0 +1,5 @@
+pub mod Views
+pub mod Viewed
+pub mod Reads
+pub mod Waiting
+pub mod Resetting

@@ -1,0 +1,15 @@
+pub mod Reach
+pub mod Allowed
+pub mod Plans
+pub mod Permits
+pub mod Goals
+pub mod Offered
+pub mod Picking
+pub mod Taking
+pub mod Choosing
+pub mod Opening
+pub mod Telling
+pub mod Whole
+pub mod Bounds
+pub mod Loops
+pub mod Examples

@@ -1,0 +1,12 @@
+pub mod Totals
+pub mod Held
+pub mod Waits
+pub mod Finer
+pub mod Counts
+pub mod Moments
+pub mod Order
+pub mod Resets
+pub mod Multiples
+pub mod Validity
+pub mod Regions
+pub mod Theorems

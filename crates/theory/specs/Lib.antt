@@ -1,0 +1,4 @@
+pub mod Settings
+pub mod Records
+pub mod Regions
+pub mod Theorems
