@@ -1,4 +1,7 @@
-// Plans, regions and refusals in words.
+// Plans, offers, regions and refusals in words.
+#[cfg(test)]
+mod examples;
 pub mod faults;
+pub mod offers;
 pub mod plans;
 pub mod regions;

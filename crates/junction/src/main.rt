@@ -1,6 +1,7 @@
 // The command-line program: it reads plan files and tells what is in them.
 mod commands;
 mod files;
+mod possible;
 mod walk;
 
 use std::env;
@@ -10,6 +11,8 @@ const USAGE: &str = "junction: runs signal plans over timer regions
 
 usage:
   junction check FILE    say what is in a plan file, or which rule it breaks
+  junction possible FILE say what may happen first: the changes possible in stage 0 with
+                         all timers at zero, with their waits in seconds and steps
   junction regions FILE MOVE..
                          walk the plan's timers from zero and print each region;
                          a MOVE is 'wait STEPS' or 'reset x0,x2'
@@ -31,6 +34,10 @@ fn run(rt: &LibcRuntime) -> Result<(), AnyError> {
         "check" => match args.next() {
             Some(path) => commands::check(rt, path.as_str()),
             None => Err("check takes a plan file: junction check FILE".into()),
+        },
+        "possible" => match args.next() {
+            Some(path) => possible::possible(rt, path.as_str()),
+            None => Err("possible takes a plan file: junction possible FILE".into()),
         },
         "regions" => match args.next() {
             Some(path) => walk::regions(rt, path.as_str(), &mut args),

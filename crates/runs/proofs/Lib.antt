@@ -13,3 +13,4 @@ pub mod Whole
 pub mod Bounds
 pub mod Loops
 pub mod Examples
+pub mod Tables

@@ -1,5 +1,5 @@
 // What the calls of a run answer with, and what is proved of runs. Each function stands for a theorem, which is its contract.
-ghost use Rattle.runs.specs.Telling.{Every-list-of-calls-tells-a-tick-run, Every-tick-run-is-told, A-step-chooses-as-its-scheduler-means, Offers-are-the-possible-changes, Allowed-waits-are-true-moments, The-hold-interval-is-permitted-time, Every-call-keeps-a-run-in-bounds};
+ghost use Rattle.runs.specs.Telling.{Every-list-of-calls-tells-a-tick-run, Every-tick-run-is-told, A-step-chooses-as-its-scheduler-means, Every-call-keeps-a-run-in-bounds};
 
 // Where a run stands: going on, at its goal, in a stage to avoid, or with nothing left to happen.
 #[derive(Clone, Copy, Debug, PartialEq, Eq)]
@@ -49,27 +49,6 @@ pub fn every_tick_run_is_told() -> u8
 // A step is refused with 8 or 12 only, and makes the choice of its scheduler.
 pub fn a_step_chooses_as_its_scheduler_means() -> u8
     ensures { λ _. ⌜ A-step-chooses-as-its-scheduler-means ⌝ }
-{
-    0
-}
-
-// A change is offered exactly if it is possible, with the waits after which it is.
-pub fn offers_are_the_possible_changes() -> u8
-    ensures { λ _. ⌜ Offers-are-the-possible-changes ⌝ }
-{
-    0
-}
-
-// Comparisons allow a wait exactly if they are true at every moment of it.
-pub fn allowed_waits_are_true_moments() -> u8
-    ensures { λ _. ⌜ Allowed-waits-are-true-moments ⌝ }
-{
-    0
-}
-
-// A wait is in the hold interval exactly if some moment of it is permitted.
-pub fn the_hold_interval_is_permitted_time() -> u8
-    ensures { λ _. ⌜ The-hold-interval-is-permitted-time ⌝ }
 {
     0
 }

@@ -1,0 +1,4 @@
+pub mod Waits
+pub mod Checked
+pub mod Known
+pub mod Lists
