@@ -1,10 +1,10 @@
 -- Which draws pick an outcome, and how many do.
-use mathlib.Core.Path.{_≡_, refl, sym, subst, ap, _∙_}
+use mathlib.Core.Path.{_≡_, subst, ap, _∙_}
 use mathlib.Core.List.{List, [], _∷_}
-use mathlib.Core.Bool.{Bool, true, false, cond}
-use mathlib.Core.Logic.{_↔_, _⊎_, inl, inr}
-use Prim.Native.Nat.{ℕ, zero, suc, _+_, _-_, _*_, _/_, _^_, _≤_, _<_, min}
-use native.Mathlib.Nat.{add-mul, div-lt-iff-lt-mul, div-mul-le-self, le-div-iff-mul-le, lt-div-mul-add, mul-le-mul-right}
+use mathlib.Core.Bool.{Bool, true, false}
+use mathlib.Core.Logic.{_⊎_, inl, inr}
+use Prim.Native.Nat.{ℕ, zero, suc, _+_, _-_, _*_, _^_, _≤_, _<_, min}
+use native.Mathlib.Nat.{add-mul, div-lt-iff-lt-mul, div-mul-le-self, le-div-iff-mul-le}
 use native.Mathlib.Omega.{arith}
 use lib.Dec.{eqb}
 use lib.ListN.{length, take}
@@ -15,7 +15,7 @@ use Rattle.runs.specs.Runs.{picked}
 use Rattle.runs.specs.Ticks.{ticket, Picks}
 use Rattle.runs.proofs.Plans.{weights-nil, weights-cons}
 use Rattle.runs.proofs.Picking.{weights-take, one-pick, picked-picks, picks-picked, ticket-fits}
-use Rattle.draws.specs.Tickets.{ticket-among, weight-at, weights-before, In-stretch, One-is-picked, Every-draw-picks-one-outcome, Every-outcome-has-its-own-stretch, rounded-up, first-draw, number-of, draws-for, Fair-share, Every-outcome-has-its-share-of-draws}
+use Rattle.draws.specs.Tickets.{ticket-among, weight-at, weights-before, In-stretch, Every-draw-picks-one-outcome, Every-outcome-has-its-own-stretch, rounded-up, first-draw, number-of, draws-for, Every-outcome-has-its-share-of-draws}
 
 pub every-draw-picks-one-outcome : Every-draw-picks-one-outcome
 every-draw-picks-one-outcome os g some h =

@@ -23,11 +23,12 @@ outcomesIn p rows = map (outcomeOf p) rows
 abbrev pub allowed : ℕ → Option ℕ
 allowed all = cond (leb 1 all && leb all 65535) (Some all) None
 
--- the place of the outcome that the draw g picks, if the weights have an allowed sum
+-- the place of the outcome that the draw g picks where the weights sum to an allowed number, and none where they do not
 abbrev pub picked-with : List Outcome → ℕ → Option ℕ → Option ℕ
 picked-with os g None = None
 picked-with os g (Some all) = Some (picked os (ticket g all))
 
+-- the place of the outcome that the draw g picks among some outcomes
 abbrev pub pick-by : List Outcome → ℕ → Option ℕ
 pick-by os g = picked-with os g (allowed (weights os))
 

@@ -1,5 +1,5 @@
 // Which outcome a draw picks.
-ghost use Prim.Native.Nat.{ℕ, _≤_, _<_};
+ghost use Prim.Native.Nat.{_≤_, _<_};
 ghost use lib.ListN.{length};
 ghost use mathlib.Core.Path.{_≡_};
 ghost use Rattle.draws.specs.Tickets.{Every-draw-picks-one-outcome, Every-outcome-has-its-own-stretch, Every-outcome-has-its-share-of-draws, allowed, outcomesIn, pick-by};

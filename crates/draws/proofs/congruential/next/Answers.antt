@@ -1,5 +1,5 @@
 use Prim.Native.Nat.{_+_, _*_, _%_}
-use mathlib.Core.Path.{_≡_, ap, _∙_}
+use mathlib.Core.Path.{ap, _∙_}
 use native.Mathlib.Nat.{mod-add-mod, mul-comm}
 use Rattle.draws.specs.Computed.{after}
 use Rattle.draws.proofs.congruential.next.Needs as need

@@ -1,5 +1,4 @@
 use Prim.Native.Nat.{ℕ, _-_, _<_}
-use mathlib.Core.Bool.{true, false}
 use mathlib.Core.Path.{_≡_, refl, ap, _∙_, sym}
 use lib.ListN.{length, getD}
 use native.Mathlib.Omega.{arith}
