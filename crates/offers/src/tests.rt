@@ -210,3 +210,50 @@ fn a_lead_allows_every_wait_or_none() -> Result<(), Fail> {
     };
     check(!cut(&region, more, Span::upto(9)).is_some())
 }
+
+#[test]
+fn a_stage_offers_as_many_changes_as_it_may_have() -> Result<(), Fail> {
+    let stage = StageRow {
+        mark: 0,
+        first_hold: 0,
+        holds: 0,
+        first_change: 0,
+        changes: 128,
+    };
+    let change = ChangeRow {
+        first_guard: 0,
+        guards: 0,
+        first_outcome: 0,
+        outcomes: 1,
+    };
+    let changes = [change; 128];
+    let tables = Tables {
+        timers: &TIMERS,
+        comparisons: &[],
+        stages: &[stage],
+        changes: &changes,
+        outcomes: &[outcome(1, 0)],
+        goals: &[GoalRow {
+            first: 0,
+            comparisons: 0,
+        }],
+    };
+    let n = Counts {
+        timers: 2,
+        comparisons: 0,
+        stages: 1,
+        changes: 128,
+        outcomes: 1,
+        goals: 1,
+    };
+    let list = possible_changes(&Plan::of_tables(tables, n), 0, &Region::opening(2));
+    check_eq(list.len, 128)?;
+    check_eq(
+        list.items[127],
+        Offer {
+            change: 127,
+            lowest: 0,
+            highest: 20,
+        },
+    )
+}
