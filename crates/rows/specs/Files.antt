@@ -29,26 +29,30 @@ use Rattle.rows.specs.Verdicts.{Rule, firstBroken, faultAt, orElse, offLimits,
 abbrev pub wordAt : List ℕ → ℕ → ℕ
 wordAt b i = 256 * getD b i 0 + getD b (i + 1) 0
 
--- the record of each kind that begins at the byte i
-
+-- the timer that begins at the byte i
 abbrev pub timerAt : List ℕ → ℕ → TimerRow
 timerAt b i = record { ceiling = wordAt b i }
 
+-- the comparison that begins at the byte i
 abbrev pub comparisonAt : List ℕ → ℕ → ComparisonRow
 comparisonAt b i =
     record { kind = getD b i 0; first = getD b (i + 1) 0; second = getD b (i + 2) 0; filler = getD b (i + 3) 0; constant = wordAt b (i + 4) }
 
+-- the stage that begins at the byte i
 abbrev pub stageAt : List ℕ → ℕ → StageRow
 stageAt b i =
     record { mark = wordAt b i; «first_hold» = wordAt b (i + 2); holds = wordAt b (i + 4); «first_change» = wordAt b (i + 6); changes = wordAt b (i + 8) }
 
+-- the change that begins at the byte i
 abbrev pub changeAt : List ℕ → ℕ → ChangeRow
 changeAt b i =
     record { «first_guard» = wordAt b i; guards = wordAt b (i + 2); «first_outcome» = wordAt b (i + 4); outcomes = wordAt b (i + 6) }
 
+-- the outcome that begins at the byte i
 abbrev pub outcomeAt : List ℕ → ℕ → OutcomeRow
 outcomeAt b i = record { weight = wordAt b i; stage = wordAt b (i + 2); resets = wordAt b (i + 4) }
 
+-- the goal that begins at the byte i
 abbrev pub goalAt : List ℕ → ℕ → GoalRow
 goalAt b i = record { first = wordAt b i; comparisons = wordAt b (i + 2) }
 
@@ -56,31 +60,35 @@ goalAt b i = record { first = wordAt b i; comparisons = wordAt b (i + 2) }
 abbrev pub rowsIn : {R : Type 0} → (List ℕ → ℕ → R) → ℕ → List ℕ → List R
 rowsIn row size b = map (λ k. row b (k * size)) (counting 0 (length b / size))
 
--- where a section begins the bytes: the bytes of its records, and what follows them
-
+-- how many bytes the records of a section take whose count begins the bytes
 abbrev pub recordBytes : SectionName → List ℕ → ℕ
 recordBytes s b = sizeOf s * wordAt b 0
 
+-- the bytes of its records
 unfoldable pub partIn : SectionName → List ℕ → List ℕ
 partIn s b = take (recordBytes s b) (drop 2 b)
 
+-- the bytes that follow it
 unfoldable pub after : SectionName → List ℕ → List ℕ
 after s b = drop (2 + recordBytes s b) b
 
--- the bytes that begin with the second section, the third, and so on to the last
-
+-- the bytes from the comparisons on
 abbrev pub from1 : List ℕ → List ℕ
 from1 b = after Timers b
 
+-- the bytes from the stages on
 abbrev pub from2 : List ℕ → List ℕ
 from2 b = after Comparisons (from1 b)
 
+-- the bytes from the changes on
 abbrev pub from3 : List ℕ → List ℕ
 from3 b = after Stages (from2 b)
 
+-- the bytes from the outcomes on
 abbrev pub from4 : List ℕ → List ℕ
 from4 b = after Changes (from3 b)
 
+-- the bytes from the goal on
 abbrev pub from5 : List ℕ → List ℕ
 from5 b = after Outcomes (from4 b)
 

@@ -39,21 +39,27 @@ past c p = record { timers = drop (c .timers) (p .timers); comparisons = drop (c
 abbrev pub word : ℕ → List ℕ
 word n = (n / 256) ∷ (n % 256) ∷ []
 
+-- a timer in the file: its ceiling
 abbrev pub timerBytes : TimerRow → List ℕ
 timerBytes t = word (t .ceiling)
 
+-- a comparison in the file: four bytes, then its constant
 abbrev pub comparisonBytes : ComparisonRow → List ℕ
 comparisonBytes c = c .kind ∷ c .first ∷ c .second ∷ c .filler ∷ word (c .constant)
 
+-- a stage in the file: its mark, its hold, its changes
 abbrev pub stageBytes : StageRow → List ℕ
 stageBytes s = word (s .mark) ++ word (s .«first_hold») ++ word (s .holds) ++ word (s .«first_change») ++ word (s .changes)
 
+-- a change in the file: its guard, its outcomes
 abbrev pub changeBytes : ChangeRow → List ℕ
 changeBytes c = word (c .«first_guard») ++ word (c .guards) ++ word (c .«first_outcome») ++ word (c .outcomes)
 
+-- an outcome in the file: its weight, its stage, its resets
 abbrev pub outcomeBytes : OutcomeRow → List ℕ
 outcomeBytes o = word (o .weight) ++ word (o .stage) ++ word (o .resets)
 
+-- the goal in the file: its comparisons
 abbrev pub goalBytes : GoalRow → List ℕ
 goalBytes g = word (g .first) ++ word (g .comparisons)
 

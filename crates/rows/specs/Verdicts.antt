@@ -49,9 +49,11 @@ faultAt place (Some refusal) = Some (record { refusal = refusal; at = place })
 abbrev pub missing : ℕ → ℕ → ℕ → Bool
 missing first n count = ltb 0 n && ltb count (first + n)
 
+-- the rules of a timer
 abbrev pub timerRules : TimerRow → List Rule
 timerRules t = (eqb (t .ceiling) 0, BadField) ∷ []
 
+-- the rules of a comparison, where the sections have some counts
 abbrev pub comparisonRules : Counts → ComparisonRow → List Rule
 comparisonRules n c =
     (ltb 7 (c .kind), BadField)
@@ -61,6 +63,7 @@ comparisonRules n c =
     ∷ (leb 4 (c .kind) && leb (n .timers) (c .second), NotThere)
     ∷ []
 
+-- the rules of a stage
 abbrev pub stageRules : Counts → StageRow → List Rule
 stageRules n s =
     (ltb 3 (s .mark), BadField)
@@ -70,6 +73,7 @@ stageRules n s =
     ∷ (missing (s .«first_change») (s .changes) (n .changes), NotThere)
     ∷ []
 
+-- the rules of a change
 abbrev pub changeRules : PlanRows → ChangeRow → List Rule
 changeRules p c =
     (ltb 32 (c .guards), CountOffLimits)
@@ -80,6 +84,7 @@ changeRules p c =
     ∷ (ltb 65535 (weightsOf p c), BadWeight)
     ∷ []
 
+-- the rules of an outcome
 abbrev pub outcomeRules : Counts → OutcomeRow → List Rule
 outcomeRules n o =
     (leb (n .stages) (o .stage), NotThere)
@@ -87,26 +92,32 @@ outcomeRules n o =
     ∷ (eqb (o .weight) 0, BadWeight)
     ∷ []
 
+-- the rules of the goal
 abbrev pub goalRules : Counts → GoalRow → List Rule
 goalRules n g =
     (ltb 32 (g .comparisons), CountOffLimits) ∷ (missing (g .first) (g .comparisons) (n .comparisons), NotThere) ∷ []
 
--- what stands where there is no row
+-- what stands where there is no timer
 abbrev pub noTimer : TimerRow
 noTimer = record { ceiling = 0 }
 
+-- a comparison that says nothing
 abbrev pub noComparison : ComparisonRow
 noComparison = record { kind = 0; first = 0; second = 0; filler = 0; constant = 0 }
 
+-- a stage that says nothing
 abbrev pub noStage : StageRow
 noStage = record { mark = 0; «first_hold» = 0; holds = 0; «first_change» = 0; changes = 0 }
 
+-- a change that says nothing
 abbrev pub noChange : ChangeRow
 noChange = record { «first_guard» = 0; guards = 0; «first_outcome» = 0; outcomes = 0 }
 
+-- an outcome that says nothing
 abbrev pub noOutcome : OutcomeRow
 noOutcome = record { weight = 0; stage = 0; resets = 0 }
 
+-- a goal that says nothing
 abbrev pub noGoal : GoalRow
 noGoal = record { first = 0; comparisons = 0 }
 
