@@ -1,4 +1,6 @@
 // Batches: many runs of sampled schedulers, and what they come to.
+#![tactic(auto)]
+
 ghost use Rattle.std.specs.Prelude.{◌≡◌, true, is_err};
 ghost use Rattle.batch.specs.Batches.{Batched};
 ghost use Rattle.batch.specs.Promised.{ABatchWithoutABindingAllowanceCountsEachRunByItself, EveryRunOfABatchTellsATickRun, TheFourCountsSumToTheRuns};

@@ -1,4 +1,6 @@
 // Plans, batches, offers, regions, calls, entries, histories and refusals in words.
+#![tactic(auto)]
+
 pub mod batches;
 pub mod calls;
 pub mod entries;

@@ -1,4 +1,6 @@
 // Where draws come from, and which outcome a draw picks.
+#![tactic(auto)]
+
 pub mod congruential;
 pub mod source;
 pub mod tape;

@@ -1,4 +1,6 @@
 // The command-line program: it reads plan files, tells what is in them and runs them.
+#![tactic(auto)]
+
 mod batch;
 mod commands;
 mod files;

@@ -1,4 +1,6 @@
 // A log: entries of any kind, in order, kept in a slice that is lent to it.
+#![tactic(auto)]
+
 ghost use Rattle.std.specs.Prelude.{◌≤◌, length};
 
 pub mod entries;

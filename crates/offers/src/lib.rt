@@ -1,4 +1,6 @@
 // What may happen next: the waits that comparisons allow, the hold interval of a stage, and the changes that are possible.
+#![tactic(auto)]
+
 pub mod hold;
 pub mod list;
 pub mod plan;

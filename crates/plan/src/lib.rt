@@ -1,4 +1,6 @@
 // Plans that are sound: the check of handed tables, and the reader of plan files.
+#![tactic(auto)]
+
 pub mod check;
 pub mod handed;
 pub mod records;

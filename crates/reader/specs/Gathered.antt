@@ -1,5 +1,5 @@
 -- What tables that are to be filled hold.
-use Rattle.std.specs.Borrow.{Bor}
+use Rattle.std.specs.Borrow.{MutBor}
 use Rattle.std.specs.Prelude.{List}
 use Rattle.reader.specs.declared.read.TablesMut.{TablesMut}
 use Rattle.rows.specs.declared.tables.TimerRow.{TimerRow}
@@ -16,7 +16,7 @@ rows_held timers comparisons stages changes outcomes goals =
     record { timers = timers; comparisons = comparisons; stages = stages; changes = changes; outcomes = outcomes; goals = goals }
 
 -- the rows that the handed tables hold when the call ends
-abbrev pub left_in : Bor (List TimerRow) × (Bor (List ComparisonRow) × (Bor (List StageRow) × (Bor (List ChangeRow) × (Bor (List OutcomeRow) × (Bor (List GoalRow) × Unit {0}))))) → PlanRows
+abbrev pub left_in : MutBor (List TimerRow) × (MutBor (List ComparisonRow) × (MutBor (List StageRow) × (MutBor (List ChangeRow) × (MutBor (List OutcomeRow) × (MutBor (List GoalRow) × Unit {0}))))) → PlanRows
 left_in t =
     rows_held t.0.now t.1.0.now t.1.1.0.now t.1.1.1.0.now t.1.1.1.1.0.now t.1.1.1.1.1.0.now
 

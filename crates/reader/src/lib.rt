@@ -1,4 +1,6 @@
 // The reader of plan files.
+#![tactic(auto)]
+
 mod bytes;
 mod fill;
 mod parts;

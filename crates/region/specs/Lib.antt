@@ -3,3 +3,4 @@ pub mod Viewed
 pub mod Reads
 pub mod Waiting
 pub mod Resetting
+pub mod Same

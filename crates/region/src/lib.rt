@@ -1,4 +1,6 @@
 // A region of a plan's timers: for each timer its whole seconds and the place of its fraction among the different fractions.
+#![tactic(auto)]
+
 ghost use Rattle.std.specs.Prelude.{◌≡◌, ◌≤◌, length};
 ghost use Rattle.region.specs.Views.{record_in};
 ghost use Rattle.theory.specs.Records.{Valid};

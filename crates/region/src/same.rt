@@ -1,10 +1,9 @@
 // When two regions are one.
 ghost use Rattle.std.specs.Prelude.{◌≡◌, ℕ, ◌<◌, Decides, slice_index_or};
+ghost use Rattle.region.specs.Same.{regions_alike, same_record};
 ghost use Rattle.region.specs.Viewed.{viewed};
 ghost use Rattle.region.specs.Views.{blank};
 ghost use Rattle.theory.specs.Theorems.{EqualRecordsAreOneRegion};
-ghost use Rattle.std.specs.Cmp.Rules.{comparing};
-ghost use Rattle.std.proofs.Common.{rules, arith};
 
 use crate::Region;
 
@@ -37,11 +36,15 @@ impl Region {
 }
 
 impl PartialEq for Region {
-    ghost equals = { λ a b r. Decides r (viewed a ≡ viewed b) };
+    ghost eq = { λ a b. same_record (viewed a) (viewed b) };
 
-    ghost laws = { first_of (Prim.search (comparing, rules), Prim.grind (arith, Self.row.coded.inj)) };
+    ghost laws = { regions_alike };
 
-    fn eq(&self, other: &Region) -> bool {
+    // Whether the two are one region.
+    fn eq(&self, other: &Region) -> bool
+        ensures told { result ≡ same_record (viewed self.now) (viewed other.now) }
+        ensures decides { Decides result (viewed self.now ≡ viewed other.now) }
+    {
         self.same(other)
     }
 }

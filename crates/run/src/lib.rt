@@ -1,4 +1,6 @@
 // A run of a plan: opening it, the calls that are made of it, and the replay of a list of calls.
+#![tactic(auto)]
+
 ghost use Rattle.std.specs.Prelude.{◌<◌, length};
 ghost use Rattle.offers.specs.Known.{plan_of};
 ghost use Rattle.region.specs.Viewed.{viewed};

@@ -1,4 +1,6 @@
 // What the calls of a run answer with, and what is proved of runs. Each function with no arguments stands for a theorem, which is its contract.
+#![tactic(auto)]
+
 ghost use Rattle.std.specs.Prelude.{◌≡◌};
 ghost use Rattle.runs.specs.Runs.{is_open};
 ghost use Rattle.runs.specs.Telling.{EveryListOfCallsTellsATickRun, EveryTickRunIsTold, AStepChoosesAsItsSchedulerMeans, EveryCallKeepsARunInBounds};

@@ -1,4 +1,6 @@
 // Choosing among offers: the foremost entry of a list, and three schedulers.
+#![tactic(auto)]
+
 pub mod chooser;
 pub mod first_last;
 pub mod foremost;

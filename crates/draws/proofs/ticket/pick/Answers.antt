@@ -17,10 +17,10 @@ returns-in-None c =
 
 pub returns-in-Some : goal.returns-in-Some
 returns-in-Some c =
-    record { every_draw_picks_one_outcome = every_draw_picks_one_outcome; every_outcome_has_its_own_stretch = every_outcome_has_its_own_stretch; every_outcome_has_its_share_of_draws = every_outcome_has_its_share_of_draws; answer = answer; picked = λ p some few. answer p ∙ ap (picked_with (outcomes_in p c.args.outcomes.now) c.args.draw) (allowed_sum (weights (outcomes_in p c.args.outcomes.now)) some few); an_outcome = picked_within c.args.outcomes.now c.args.draw c.in_Some.weights c.place_of.result (omega arith) c.in_Some.ensures place }
+    record { every_draw_picks_one_outcome = every_draw_picks_one_outcome; every_outcome_has_its_own_stretch = every_outcome_has_its_own_stretch; every_outcome_has_its_share_of_draws = every_outcome_has_its_share_of_draws; answer = answer; picked = λ p some few. answer p ∙ ap (picked_with (outcomes_in p c.args.outcomes.now) c.args.draw) (allowed_sum (weights (outcomes_in p c.args.outcomes.now)) some few); an_outcome = picked_within c.args.outcomes.now c.args.draw c.in-Some.weights c.place_of.result (omega arith) c.in-Some.ensures place }
   where
-    place : (p : PlanRows) → c.place_of.result ≡ picked (outcomes_in p c.args.outcomes.now) (ticket c.args.draw c.in_Some.weights)
+    place : (p : PlanRows) → c.place_of.result ≡ picked (outcomes_in p c.args.outcomes.now) (ticket c.args.draw c.in-Some.weights)
     place p = c.place_of.ensures p ∙ ap (picked (outcomes_in p c.args.outcomes.now)) c.ticket.ensures.value
 
     answer : (p : PlanRows) → Some c.place_of.result ≡ pick_by (outcomes_in p c.args.outcomes.now) c.args.draw
-    answer p = ap Some (place p) ∙ ap (picked_with (outcomes_in p c.args.outcomes.now) c.args.draw) (c.in_Some.ensures p)
+    answer p = ap Some (place p) ∙ ap (picked_with (outcomes_in p c.args.outcomes.now) c.args.draw) (c.in-Some.ensures p)

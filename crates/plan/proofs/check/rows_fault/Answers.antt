@@ -7,7 +7,7 @@ use Rattle.plan.proofs.check.rows_fault.Goals as goal
 pub returns-in-Some : goal.returns-in-Some
 returns-in-Some g c =
     let p : PlanRows = g.R.Records.held c.args.rows.now in
-    this_section (section_fault p) c.loop-section.section-index c.in_Some.fault c.loop-section-test.true c.in_Some.ensures
+    this_section (section_fault p) c.loop-section.section-index c.in-Some.fault c.loop-section-test.true c.in-Some.ensures
     ∙ c.loop-section.invariant
 
 pub loop-section-preserved : goal.loop-section-preserved

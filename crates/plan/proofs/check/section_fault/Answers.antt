@@ -9,7 +9,7 @@ pub returns-in-Some : goal.returns-in-Some
 returns-in-Some g c =
     let p : PlanRows = g.R.Records.held c.args.rows.now in
     let n = ap (λ z. count_of z c.args.section) c.counts.ensures in
-    this_record p c.args.section c.loop-i.i c.of-count.result c.in_Some.refusal (omega arith) c.in_Some.ensures
+    this_record p c.args.section c.loop-i.i c.of-count.result c.in-Some.refusal (omega arith) c.in-Some.ensures
     ∙ c.loop-i.invariant
     ∙ ap (fault_from p c.args.section 0) (c.of-count.ensures ∙ n)
 

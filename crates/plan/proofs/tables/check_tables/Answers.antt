@@ -19,8 +19,8 @@ by_rows n p q o none e found = ap (λ z. or_else z (rows_fault (front n p))) non
 pub returns-in-Some : goal.returns-in-Some
 returns-in-Some c =
     let p : PlanRows = held_by c.args.tables in
-    let f = c.in_Some.fault in
-    let found = counted c.counts.result c.args.n p (Some f) c.counts.ensures c.in_Some.ensures in
+    let f = c.in-Some.fault in
+    let found = counted c.counts.result c.args.n p (Some f) c.counts.ensures c.in-Some.ensures in
     let verdict : tables_fault (counts_of p) c.args.n (front c.args.n p) ≡ Some f =
     ap (λ z. or_else z (rows_fault (front c.args.n p))) found in
     record {
@@ -48,7 +48,7 @@ pub returns : goal.returns
 returns c =
     let p : PlanRows = held_by c.args.tables in
     let none = counted c.counts.result c.args.n p None c.counts.ensures c.in_default.ensures in
-    let verdict = by_rows c.args.n p (held_by c.cut-rows.result) None none c.cut-rows.ensures c.in-default-rows_fault.ensures in
+    let verdict = by_rows c.args.n p (held_by c.cut-rows.result) None none c.cut-rows.ensures c.in_default-rows_fault.ensures in
     record {
       answer = verdict;
       tables_pass_exactly_if_they_are_sound = decides_from_verdict c.args.n p true None verdict refl;

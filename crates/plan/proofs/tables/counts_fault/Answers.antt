@@ -10,8 +10,8 @@ pub returns-in-Some : goal.returns-in-Some
 returns-in-Some c =
     let i = c.loop-section.section-index in
     let at = get_or section_names i Timers in
-    this_section (count_fault c.args.rooms.now c.args.n.now) i (record { refusal = c.in_Some.refusal; at = Section at })
-    c.loop-section-test.true (ap (fault_at (Section at)) c.in_Some.ensures)
+    this_section (count_fault c.args.rooms.now c.args.n.now) i (record { refusal = c.in-Some.refusal; at = Section at })
+    c.loop-section-test.true (ap (fault_at (Section at)) c.in-Some.ensures)
     ∙ c.loop-section.invariant
 
 pub loop-section-preserved : goal.loop-section-preserved

@@ -10,8 +10,8 @@ use Rattle.reader.proofs.section.cut.Goals as goal
 
 pub returns-in-Some : goal.returns-in-Some
 returns-in-Some c =
-    part_fails c.args.name c.args.rooms.now c.args.bytes.now c.in_Some.refusal
-    (c.in_Some.ensures ∙ ap (λ n. first_broken (layout_rules c.args.name n c.args.bytes.now)) c.of.ensures)
+    part_fails c.args.name c.args.rooms.now c.args.bytes.now c.in-Some.refusal
+    (c.in-Some.ensures ∙ ap (λ n. first_broken (layout_rules c.args.name n c.args.bytes.now)) c.of.ensures)
 
 pub returns : goal.returns
 returns c =

@@ -5,7 +5,7 @@ use Rattle.region.specs.Views.{blank}
 use Rattle.region.proofs.Marked.{get_d_written, named_more, other_more, others_none}
 use Rattle.region.proofs.Shown.{rank_below}
 use Rattle.region.proofs.Region.held_ranks.Goals as goal
-use Rattle.region.proofs.Region.held_ranks.Goals.{then_not_is_named, else_not_is_named}
+use Rattle.region.proofs.Region.held_ranks.Goals.{then-not-is_named, else-not-is_named}
 
 pub loop-i-init : goal.loop-i-init
 loop-i-init c =
@@ -29,14 +29,14 @@ loop-i-preserved c =
     let room : r.number ≤ length xs = omega arith in
     let below : k < length held = omega (arith, c.loop-i.invariant.0, rank_below r.whole r.classes r.number xs i room c.loop-i-test.true r.valid) in
     elim c.if-not-is_named.branch [
-      | then_not_is_named w ↦ (
+      | then-not-is_named w ↦ (
         ap length w.held-is ∙ length-set held k 1 ∙ c.loop-i.invariant.0,
         λ j h. ap (λ (zs : List ℕ). get_or zs j 0) w.held-is
             ∙ get_d_written held k 1 j below
             ∙ ap (λ (n : ℕ). cond (eqb k j) 1 n) (c.loop-i.invariant.1 j h)
             ∙ sym (other_more bits xs i j within (sym c.is_named.ensures ∙ w.if-not-is_named.true)),
       )
-      | else_not_is_named w ↦ (
+      | else-not-is_named w ↦ (
         ap length w.held-is ∙ c.loop-i.invariant.0,
         λ j h. ap (λ (zs : List ℕ). get_or zs j 0) w.held-is
             ∙ c.loop-i.invariant.1 j h

@@ -9,7 +9,7 @@ pub invariant_of-result : goal.invariant_of-result
 invariant_of-result c =
     let some : 1 ≤ c.min-number.result = search rules in
     let few : c.min-number.result ≤ 16 = search rules in
-    (refl, (some, (few, (search rules, (search rules, (∣ zero_valid c.min-number.result some few ∣₁, tt))))))
+    record { full = refl; some = some; few = few; classed = search rules; table = search rules; valid = ∣ zero_valid c.min-number.result some few ∣₁ }
 
 pub returns : goal.returns
 returns c =

@@ -68,7 +68,7 @@ invariant_of-self c =
     let some : 1 ≤ k = omega (arith, placed r.classes (omega arith)) in
     let few : k ≤ 16 =
     ∥∥₁_elim r.valid le_prop (λ ok. omega (arith, classes_few (record_in true k r.number c.rows_reset.result) (stays ok), length_shown r.number c.rows_reset.result room')) in
-    (c.rows_reset.ensures.room, (r.some, (r.few, (some, (few, (∥∥₁_elim r.valid ∥∥₁_prop (λ ok. ∣ stays ok ∣₁), tt))))))
+    record { full = c.rows_reset.ensures.room; some = r.some; few = r.few; classed = some; table = few; valid = ∥∥₁_elim r.valid ∥∥₁_prop (λ ok. ∣ stays ok ∣₁) }
 
 pub returns : goal.returns
 returns c =

@@ -7,7 +7,7 @@ use Rattle.region.specs.Views.{blank, timer_in}
 use Rattle.region.proofs.Placed.{row_placed}
 use Rattle.region.proofs.Shown.{rank_below}
 use Rattle.region.proofs.Region.row_reset.Goals as goal
-use Rattle.region.proofs.Region.row_reset.Goals.{else-self-via-then-self+else-row-eq0, else_self_via_else_self}
+use Rattle.region.proofs.Region.row_reset.Goals.{else-self-via-then-self+else-row-eq0, else-self-via-else-self}
 
 pub bounds-places-row : goal.bounds-places-row
 bounds-places-row c =
@@ -26,7 +26,7 @@ returns c =
     let above : at_zero v t.rank ≡ false =
     elim c.else-self.branch [
       | else-self-via-then-self+else-row-eq0 w ↦ and_right r.whole (eqb t.rank 0) (ne_eqb t.rank 0 w.if-row-eq0.false)
-      | else_self_via_else_self w ↦ and_left r.whole (eqb t.rank 0) w.if-self.false
+      | else-self-via-else-self w ↦ and_left r.whole (eqb t.rank 0) w.if-self.false
     ] in
     row_placed named v t (get_or c.args.places.now t.rank 0) above (c.requires.placed t.rank low)
     ∙ sym (cond-false (bit_no c.args.timers c.args.timer) fresh (reranked named v t) (sym c.if-is_named.ensures))

@@ -6,7 +6,7 @@ use Rattle.theory.proofs.Theorems.{equal_records_are_one_region}
 use Rattle.region.specs.Viewed.{viewed}
 use Rattle.region.proofs.Alike.{one_record, same_number, same_rows}
 use Rattle.region.proofs.Region.same.Goals as goal
-use Rattle.region.proofs.Region.same.Goals.{then_self_other_via_then_self_other, then-self-other-via-else-self-other+then-self-other-2, then-self-other-via-else-self-other+else-self-other-2+then-self-other-3}
+use Rattle.region.proofs.Region.same.Goals.{then-self-other-via-then-self-other, then-self-other-via-else-self-other+then-self-other-2, then-self-other-via-else-self-other+else-self-other-2+then-self-other-3}
 
 -- two flags that are not told apart are equal
 same_flag : (a b : Bool) → not (beq a b) ≡ false → a ≡ b
@@ -30,7 +30,7 @@ returns-then-self-other c =
     let room' : s.number ≤ length s.rows = omega arith in
     let never : viewed r ≡ viewed s → ⊥ =
     λ e. elim c.then-self-other.branch [
-      | then_self_other_via_then_self_other w ↦ told_apart r.whole s.whole w.if-self-other.true (ap (λ (v : Record). v.whole) e)
+      | then-self-other-via-then-self-other w ↦ told_apart r.whole s.whole w.if-self-other.true (ap (λ (v : Record). v.whole) e)
       | then-self-other-via-else-self-other+then-self-other-2 w ↦ w.if-self-other-2.true (ap (λ (v : Record). v.classes) e)
       | then-self-other-via-else-self-other+else-self-other-2+then-self-other-3 w ↦
           w.if-self-other-3.true (same_number r.whole s.whole r.classes s.classes r.number s.number r.rows s.rows room room' e)

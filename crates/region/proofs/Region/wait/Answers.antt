@@ -31,7 +31,7 @@ invariant_of-self c =
     let after = wait_shown r.whole whole' r.classes r.number r.rows c.rows_after.result c.args.steps (ap (λ (e : ℕ). eqb ((e + c.args.steps) % 2) 0) c.edge.ensures) c.rows_after.ensures.later in
     let stays : Valid (viewed r) → Valid (record_in whole' r.classes r.number c.rows_after.result) =
     λ ok. subst Valid (sym after) (wait_keeps_valid c.args.steps (viewed r) ok) in
-    (c.rows_after.ensures.room, (r.some, (r.few, (r.classed, (r.table, (∥∥₁_elim r.valid ∥∥₁_prop (λ ok. ∣ stays ok ∣₁), tt))))))
+    record { full = c.rows_after.ensures.room; some = r.some; few = r.few; classed = r.classed; table = r.table; valid = ∥∥₁_elim r.valid ∥∥₁_prop (λ ok. ∣ stays ok ∣₁) }
 
 pub returns : goal.returns
 returns c =

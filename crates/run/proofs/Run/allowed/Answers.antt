@@ -15,8 +15,8 @@ returns-then-not-is_open g c =
     let run = c.args.self.now in
     take_not_open (plan_for run) (view_of g.D.DrawSource.coming run) c.args.change c.args.wait (sym c.if-not-is_open.ensures)
 
-pub returns-in-default : goal.returns-in-default
-returns-in-default g c =
+pub returns-in_default : goal.returns-in_default
+returns-in_default g c =
     let run = c.args.self.now in
     take_not_of_stage (plan_for run) (view_of g.D.DrawSource.coming run) c.args.change c.args.wait (sym c.if-not-is_open.ensures) c.in_default.ensures
 
@@ -24,25 +24,25 @@ pub returns-then-wait-last : goal.returns-then-wait-last
 returns-then-wait-last g c =
     let run = c.args.self.now in
     let last = top (plan_for run) run.stage (viewed run.region) in
-    take_outside (plan_for run) (view_of g.D.DrawSource.coming run) c.args.change c.args.wait (sym c.if-not-is_open.ensures) c.in_Some.ensures.0 (lt-leb c.args.wait last (omega (arith, c.top-last.ensures.last, c.if-wait-last.true)))
+    take_outside (plan_for run) (view_of g.D.DrawSource.coming run) c.args.change c.args.wait (sym c.if-not-is_open.ensures) c.in-Some.ensures.0 (lt-leb c.args.wait last (omega (arith, c.top-last.ensures.last, c.if-wait-last.true)))
 
 pub returns-then-not-has : goal.returns-then-not-has
 returns-then-not-has g c =
     let run = c.args.self.now in
     let view = view_of g.D.DrawSource.coming run in
     let last = top (plan_for run) run.stage (viewed run.region) in
-    let span = span_for (plan_for run) view c.args.change c.top-last.result (change_of_row (rows_of run.plan) c.in_Some.row) (span_of c.guard_span.result) c.top-last.ensures.last c.in_Some.ensures.1 c.guard_span.ensures.span in
-    take_forbidden (plan_for run) view c.args.change c.args.wait (sym c.if-not-is_open.ensures) c.in_Some.ensures.0 (le-leb c.args.wait last (omega (arith, c.top-last.ensures.last, c.if-wait-last.false))) (sym (c.if-not-has.ensures ∙ ap (inside c.args.wait) span))
+    let span = span_for (plan_for run) view c.args.change c.top-last.result (change_of_row (rows_of run.plan) c.in-Some.row) (span_of c.guard_span.result) c.top-last.ensures.last c.in-Some.ensures.1 c.guard_span.ensures.span in
+    take_forbidden (plan_for run) view c.args.change c.args.wait (sym c.if-not-is_open.ensures) c.in-Some.ensures.0 (le-leb c.args.wait last (omega (arith, c.top-last.ensures.last, c.if-wait-last.false))) (sym (c.if-not-has.ensures ∙ ap (inside c.args.wait) span))
 
 pub returns : goal.returns
 returns g c =
     let run = c.args.self.now in
     let view = view_of g.D.DrawSource.coming run in
     let in_hold : c.args.wait ≤ top (plan_for run) run.stage (viewed run.region) = omega (arith, c.top-last.ensures.last, c.if-wait-last.false) in
-    let span = span_for (plan_for run) view c.args.change c.top-last.result (change_of_row (rows_of run.plan) c.in_Some.row) (span_of c.guard_span.result) c.top-last.ensures.last c.in_Some.ensures.1 c.guard_span.ensures.span in
+    let span = span_for (plan_for run) view c.args.change c.top-last.result (change_of_row (rows_of run.plan) c.in-Some.row) (span_of c.guard_span.result) c.top-last.ensures.last c.in-Some.ensures.1 c.guard_span.ensures.span in
     record {
-      made = take_fits (plan_for run) view c.args.change c.args.wait (fitting (plan_for run) view c.args.change c.args.wait (sym c.if-not-is_open.ensures) c.in_Some.ensures.0 in_hold (sym (c.if-not-has.ensures ∙ ap (inside c.args.wait) span)));
-      of_stage = of_stage_is (plan_for run) run.stage c.args.change c.in_Some.ensures.0;
-      its_row = c.in_Some.ensures.1;
+      made = take_fits (plan_for run) view c.args.change c.args.wait (fitting (plan_for run) view c.args.change c.args.wait (sym c.if-not-is_open.ensures) c.in-Some.ensures.0 in_hold (sym (c.if-not-has.ensures ∙ ap (inside c.args.wait) span)));
+      of_stage = of_stage_is (plan_for run) run.stage c.args.change c.in-Some.ensures.0;
+      its_row = c.in-Some.ensures.1;
       in_hold = in_hold;
     }

@@ -40,8 +40,8 @@ arrive-requires g c =
       an_outcome = outcome_sound (rows_of run.plan) c.args.row own c.unwrap-place.result run.plan.sound c.outcomes_of-outcomes.ensures (MatchOption-at_some (Unit {0}) (λ n. n < length own) c.unwrap-place.result c.unwrap-place.ensures c.pick.ensures.an_outcome);
     }
 
-pub overflow-cast-result : goal.overflow-cast-result
-overflow-cast-result g c =
+pub overflow_cast-result : goal.overflow_cast-result
+overflow_cast-result g c =
     let run = c.args.self.now in
     let own = c.outcomes_of-outcomes.result.now in
     let l = outcome_place (rows_of run.plan) c.args.row own c.unwrap-place.result run.plan.sound c.outcomes_of-outcomes.ensures (MatchOption-at_some (Unit {0}) (λ n. n < length own) c.unwrap-place.result c.unwrap-place.ensures c.pick.ensures.an_outcome) in

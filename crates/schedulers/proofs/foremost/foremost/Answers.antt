@@ -3,7 +3,7 @@ use Rattle.std.proofs.lemmas.List.MinMax.{IsFirstBest-keeps, IsFirstBest-takes}
 use Rattle.std.specs.List.{IsFirstBest}
 use Rattle.schedulers.specs.Foremosts.{best_is_foremost}
 use Rattle.schedulers.proofs.foremost.foremost.Goals as goal
-use Rattle.schedulers.proofs.foremost.foremost.Goals.{then_beats, else_beats}
+use Rattle.schedulers.proofs.foremost.foremost.Goals.{then-beats, else-beats}
 
 pub loop-i-preserved : goal.loop-i-preserved
 loop-i-preserved g c =
@@ -13,9 +13,9 @@ loop-i-preserved g c =
     let order = g.met.R.Ranking.ranks c.args.ranking.now in
     let within : i < length xs = omega arith in
     elim c.if-beats.branch [
-      | then_beats w ↦ subst (λ (p : ℕ). (p < length xs) × IsFirstBest beats xs (i + 1) p) (sym w.place-is)
+      | then-beats w ↦ subst (λ (p : ℕ). (p < length xs) × IsFirstBest beats xs (i + 1) p) (sym w.place-is)
           (within, IsFirstBest-takes order xs i c.loop-i.place c.index-entries-i.result c.index-entries-place.result c.loop-i.invariant.1 within c.index-entries-i.is c.index-entries-place.is (sym w.if-beats.ensures))
-      | else_beats w ↦ subst (λ (p : ℕ). (p < length xs) × IsFirstBest beats xs (i + 1) p) (sym w.place-is)
+      | else-beats w ↦ subst (λ (p : ℕ). (p < length xs) × IsFirstBest beats xs (i + 1) p) (sym w.place-is)
           (c.loop-i.invariant.0, IsFirstBest-keeps order xs i c.loop-i.place c.index-entries-i.result c.index-entries-place.result c.loop-i.invariant.1 within c.index-entries-i.is c.index-entries-place.is (sym w.if-beats.ensures))
     ]
 

@@ -7,7 +7,7 @@ use Rattle.theory.specs.Records.{Timer, fresh}
 use Rattle.schedulers.specs.Hashes.{mixed, timer_bytes}
 use Rattle.schedulers.specs.Samples.{row_is_there, row_is_timer, timers_more}
 use Rattle.schedulers.proofs.sampled.mix_timers.Goals as goal
-use Rattle.schedulers.proofs.sampled.mix_timers.Goals.{in_Some, in_default}
+use Rattle.schedulers.proofs.sampled.mix_timers.Goals.{in-Some, in-default}
 
 pub loop-i-preserved : goal.loop-i-preserved
 loop-i-preserved c =
@@ -16,13 +16,13 @@ loop-i-preserved c =
     let i = c.loop-i.i in
     let there : i < length ts = omega (arith, c.timers-i-end.ensures) in
     elim c.match-timer.branch [
-      | in_Some w ↦
+      | in-Some w ↦
           w.mixed-is
           ∙ w.mix_timer-mixed.ensures
-          ∙ ap (λ h. fold mixed h (timer_bytes (timer_in w.in_Some.t))) c.loop-i.invariant
-          ∙ ap (λ t. fold mixed (fold mixed c.args.h (flat_map timer_bytes (take i ts))) (timer_bytes t)) (sym (row_is_timer r i w.in_Some.t w.in_Some.ensures there))
+          ∙ ap (λ h. fold mixed h (timer_bytes (timer_in w.in-Some.t))) c.loop-i.invariant
+          ∙ ap (λ t. fold mixed (fold mixed c.args.h (flat_map timer_bytes (take i ts))) (timer_bytes t)) (sym (row_is_timer r i w.in-Some.t w.in-Some.ensures there))
           ∙ sym (timers_more c.args.h ts i fresh there)
-      | in_default w ↦ absurd (row_is_there r i w.in_default.ensures there)
+      | in-default w ↦ absurd (row_is_there r i w.in-default.ensures there)
     ]
 
 pub returns : goal.returns

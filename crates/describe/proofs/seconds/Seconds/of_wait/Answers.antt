@@ -6,12 +6,12 @@ use Rattle.describe.proofs.seconds.Seconds.of_wait.Goals as goal
 some : (c : goal.After-greatest_common-common) → 0 < c.steps_per_second-per_second.result
 some c = omega (arith, c.steps_per_second-per_second.ensures.steps, c.args.region.now.classed)
 
-pub nonzero-div-result-2 : goal.nonzero-div-result-2
-nonzero-div-result-2 c =
+pub nonzero_div-result-2 : goal.nonzero_div-result-2
+nonzero_div-result-2 c =
     (lowest c.args.steps c.steps_per_second-per_second.result c.greatest_common-common.result (some c) c.greatest_common-common.ensures).0
 
-pub nonzero-div-result-3 : goal.nonzero-div-result-3
-nonzero-div-result-3 c = nonzero-div-result-2 c
+pub nonzero_div-result-3 : goal.nonzero_div-result-3
+nonzero_div-result-3 c = nonzero_div-result-2 c
 
 pub returns : goal.returns
 returns c =

@@ -9,7 +9,7 @@ returns-in-Some c =
     let o = c.args.self.now in
     let room : o.len < length o.items = omega (arith, c.requires.tidy.room) in
     record {
-      listed = take_more_set o.items o.len c.in_Some.offer room ∙ ap (λ z. listed o ++ in_option z) (sym c.in_Some.is);
-      tidy = tidy_more o c.in_Some.offer c.requires.tidy c.requires.room;
+      listed = take_more_set o.items o.len c.in-Some.offer room ∙ ap (λ z. listed o ++ in_option z) (sym c.in-Some.is);
+      tidy = tidy_more o c.in-Some.offer c.requires.tidy c.requires.room;
       count = omega arith;
     }
