@@ -16,7 +16,7 @@ invariant_of-self g c =
     let bounds = c.waited-region.ensures.in_bounds in
     let made = reset_made p c.args.outcome.resets (viewed c.waited-region.result) (viewed c.reset.new.self) c.reset.result c.requires.an_outcome.resets bounds c.reset.ensures.answer in
     let a_stage : c.args.outcome.stage < length (plan_for c.args.self.now).stages = omega (arith, c.requires.an_outcome.stage, length-map p.stages (stage_of_row p)) in
-    (reset_bounds p c.args.outcome.resets (viewed c.waited-region.result) (viewed c.reset.new.self) bounds made, (a_stage, tt))
+    record { in_bounds = reset_bounds p c.args.outcome.resets (viewed c.waited-region.result) (viewed c.reset.new.self) bounds made; a_stage = a_stage }
 
 pub returns : goal.returns
 returns g c =

@@ -3,7 +3,7 @@ use Rattle.runs.specs.declared.Standing.TheVariants.{Reached}
 use Rattle.run.proofs.Run.meet.Goals as goal
 
 pub invariant_of-self : goal.invariant_of-self
-invariant_of-self g c = (c.waited-self.ensures.in_bounds, (c.args.self.now.a_stage, tt))
+invariant_of-self g c = record { in_bounds = c.waited-self.ensures.in_bounds; a_stage = c.args.self.now.a_stage }
 
 pub returns : goal.returns
 returns g c =

@@ -15,7 +15,7 @@ invariant_of-result g c =
     let plan = c.args.plan in
     let sound = plan_sound (rows_of plan) plan.sound in
     let z = opened_at_zero (rows_of plan) (held_by c.tables.result) (viewed c.opening-region.result) c.tables.ensures plan.sound c.opening-region.ensures.told in
-    (∣ subst (InBounds (plan_of plan)) (sym z) (zero_in_bounds (plan_of plan) sound) ∣₁, (sound.some_stage, tt))
+    record { in_bounds = ∣ subst (InBounds (plan_of plan)) (sym z) (zero_in_bounds (plan_of plan) sound) ∣₁; a_stage = sound.some_stage }
 
 pub returns : goal.returns
 returns g c =

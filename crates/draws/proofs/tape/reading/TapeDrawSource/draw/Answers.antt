@@ -7,7 +7,7 @@ use Rattle.draws.proofs.tape.reading.TapeDrawSource.draw.Goals as goal
 
 pub invariant_of-self : goal.invariant_of-self
 invariant_of-self c =
-    (c.args.self.now.numbers_fit, (part_fits (length c.args.self.now.left.now - 1) 1 c.args.self.now.left.now c.args.self.now.left_fit, tt))
+    record { numbers_fit = c.args.self.now.numbers_fit; left_fit = part_fits (length c.args.self.now.left.now - 1) 1 c.args.self.now.left.now c.args.self.now.left_fit }
 
 pub returns-then-self-eq0 : goal.returns-then-self-eq0
 returns-then-self-eq0 c =
