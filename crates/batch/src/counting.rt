@@ -9,7 +9,7 @@ ghost use Rattle.schedulers.specs.Meanings.{sampled_by};
 
 use crate::{BatchRow, Limits};
 use draws::source::DrawSource;
-use offers::plan::Plan;
+use offers::sound_plan::Plan;
 use run::Run;
 use runs::Standing;
 use schedulers::sampled::Sampled;

@@ -10,7 +10,7 @@ use crate::watch::Watch;
 use crate::{BatchRow, Limits};
 use draws::source::DrawSource;
 use logs::Log;
-use offers::plan::Plan;
+use offers::sound_plan::Plan;
 
 // What is left of the allowance, and the source of the draws.
 #[derive(Drop)]

@@ -21,7 +21,7 @@ use crate::entering::enter_rows;
 use crate::watch::Watch;
 use draws::source::DrawSource;
 use logs::Log;
-use offers::plan::Plan;
+use offers::sound_plan::Plan;
 use plan::handed::Tables;
 use rows::refusal::Refusal;
 use rows::section::Counts;

@@ -1,7 +1,7 @@
 // What may happen first: the changes of stage 0 that are possible with all timers at zero.
 use crate::files::PlanFile;
 use describe::offers::OfferAtZero;
-use offers::plan::Plan;
+use offers::sound_plan::Plan;
 use offers::possible::possible_changes;
 use region::Region;
 

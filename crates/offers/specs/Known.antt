@@ -5,7 +5,7 @@ use Rattle.rows.specs.declared.tables.TimerRow.{TimerRow}
 use Rattle.rows.specs.Plans.{PlanRows}
 use Rattle.runs.specs.Plans as runs
 use Rattle.runs.specs.Tables.{plan_in}
-use Rattle.offers.specs.declared.plan.Plan.{Plan}
+use Rattle.offers.specs.declared.sound_plan.Plan.{Plan}
 
 -- the rows of a plan
 abbrev pub rows_of : Plan → PlanRows

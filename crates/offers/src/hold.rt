@@ -6,7 +6,7 @@ ghost use Rattle.region.specs.Viewed.{viewed};
 ghost use Rattle.runs.specs.Runs.{goal_by, hold_span, room, top};
 ghost use Rattle.runs.specs.Telling.{TheHoldIntervalIsPermittedTime};
 
-use crate::plan::Plan;
+use crate::sound_plan::Plan;
 use crate::waits::{Span, count, cuts, steps};
 use region::Region;
 use rows::tables::TimerRow;

@@ -3,8 +3,8 @@
 
 pub mod hold;
 pub mod list;
-pub mod plan;
 pub mod possible;
+pub mod sound_plan;
 mod stage;
 #[cfg(test)]
 mod tests;

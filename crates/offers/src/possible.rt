@@ -10,7 +10,7 @@ ghost use Rattle.runs.specs.Telling.{OffersAreThePossibleChanges};
 
 use crate::hold::top;
 use crate::list::OfferList;
-use crate::plan::Plan;
+use crate::sound_plan::Plan;
 use crate::waits::{Span, cuts};
 use region::Region;
 use rows::tables::{ChangeRow, part};

@@ -4,7 +4,7 @@ ghost use Rattle.offers.specs.Known.{plan_of, rows_of};
 ghost use Rattle.runs.specs.Plans.{stage_of};
 ghost use Rattle.runs.specs.Tables.{comparison_of_row, stage_of_row};
 
-use crate::plan::{BLANK_STAGE, Plan};
+use crate::sound_plan::{BLANK_STAGE, Plan};
 use rows::reading::Mark;
 use rows::tables::{ComparisonRow, StageRow, part};
 

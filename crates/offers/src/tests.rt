@@ -1,7 +1,7 @@
 // What may happen in a plan of two timers, x and y, with ceilings of 10 seconds.
 use crate::hold::{goal_by, top};
-use crate::plan::Plan;
 use crate::possible::possible_changes;
+use crate::sound_plan::Plan;
 use crate::waits::{Span, cut, cuts};
 use plan::handed::Tables;
 use region::Region;

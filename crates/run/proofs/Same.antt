@@ -2,7 +2,7 @@
 use Rattle.std.proofs.Common.{◌≡◌, ℕ, ◌<◌, length}
 use mathlib.Core.Logic.{∥∥₁_prop}
 use native.Mathlib.Bridge.{le_prop}
-use Rattle.offers.specs.declared.plan.Plan.{Plan}
+use Rattle.offers.specs.declared.sound_plan.Plan.{Plan}
 use Rattle.offers.specs.Known.{plan_of}
 use Rattle.region.specs.declared.Region.{Region}
 use Rattle.region.specs.Viewed.{viewed}

@@ -6,7 +6,7 @@ ghost use Rattle.runs.specs.Plans.{stage_of};
 ghost use Rattle.runs.specs.Runs.{judged};
 
 use offers::hold::goal_by;
-use offers::plan::Plan;
+use offers::sound_plan::Plan;
 use region::Region;
 use rows::reading::Mark;
 use runs::Standing;

@@ -16,7 +16,7 @@ pub mod replay;
 mod step;
 mod take;
 
-use offers::plan::Plan;
+use offers::sound_plan::Plan;
 use region::Region;
 use runs::Standing;
 

@@ -5,7 +5,7 @@ ghost use Rattle.runs.specs.Plans.{change_of};
 ghost use Rattle.runs.specs.Runs.{is_of_stage};
 ghost use Rattle.runs.specs.Tables.{change_of_row, listed};
 
-use offers::plan::Plan;
+use offers::sound_plan::Plan;
 use rows::tables::{ChangeRow, OutcomeRow, part};
 
 // The row of a change, if it is one of the stage.

@@ -11,7 +11,7 @@ ghost use Rattle.runs.specs.Telling.{KeepsInBounds, RegionsAndTicksTellTheSame};
 use crate::Run;
 use crate::arrival::judged;
 use draws::source::DrawSource;
-use offers::plan::Plan;
+use offers::sound_plan::Plan;
 use plan::handed::Tables;
 use region::Region;
 use rows::section::Counts;

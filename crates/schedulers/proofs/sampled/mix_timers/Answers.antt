@@ -7,7 +7,7 @@ use Rattle.theory.specs.Records.{Timer, fresh}
 use Rattle.schedulers.specs.Hashes.{mixed, timer_bytes}
 use Rattle.schedulers.specs.Samples.{row_is_there, row_is_timer, timers_more}
 use Rattle.schedulers.proofs.sampled.mix_timers.Goals as goal
-use Rattle.schedulers.proofs.sampled.mix_timers.Goals.{in-Some, in-default}
+use Rattle.schedulers.proofs.sampled.mix_timers.Goals.{in-Some, in_default}
 
 pub loop-i-preserved : goal.loop-i-preserved
 loop-i-preserved c =
@@ -22,7 +22,7 @@ loop-i-preserved c =
           ∙ ap (λ h. fold mixed h (timer_bytes (timer_in w.in-Some.t))) c.loop-i.invariant
           ∙ ap (λ t. fold mixed (fold mixed c.args.h (flat_map timer_bytes (take i ts))) (timer_bytes t)) (sym (row_is_timer r i w.in-Some.t w.in-Some.ensures there))
           ∙ sym (timers_more c.args.h ts i fresh there)
-      | in-default w ↦ absurd (row_is_there r i w.in-default.ensures there)
+      | in_default w ↦ absurd (row_is_there r i w.in_default.ensures there)
     ]
 
 pub returns : goal.returns

@@ -9,4 +9,4 @@ pub returns-in-None : goal.returns-in-None
 unfolding foremost_of
 returns-in-None c =
     let none : c.args.offers.now ≡ [] = nil_from_length c.args.offers.now c.in-None.ensures in
-    sym (ap (earliest c.args.-stage (viewed c.args.-region.now)) none)
+    sym (ap (earliest c.args._stage (viewed c.args._region.now)) none)

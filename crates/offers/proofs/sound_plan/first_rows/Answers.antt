@@ -1,6 +1,6 @@
 use Rattle.std.proofs.Common.{◌≡◌, ◌+◌, min, length, arith, rules}
 use Rattle.rows.proofs.Cuts.{part_as_cut}
-use Rattle.offers.proofs.plan.first_rows.Goals as goal
+use Rattle.offers.proofs.sound_plan.first_rows.Goals as goal
 
 pub returns : goal.returns
 returns g c =

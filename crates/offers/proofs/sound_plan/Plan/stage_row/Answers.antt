@@ -1,7 +1,7 @@
 use Rattle.std.proofs.Common.{◌≡◌, arith}
 use Rattle.offers.specs.Known.{rows_of}
 use Rattle.offers.proofs.Known.{stage_missing, stage_row_sound, stage_there}
-use Rattle.offers.proofs.plan.Plan.stage_row.Goals as goal
+use Rattle.offers.proofs.sound_plan.Plan.stage_row.Goals as goal
 
 pub returns-then-stage-stages : goal.returns-then-stage-stages
 returns-then-stage-stages c =
