@@ -39,8 +39,8 @@ bounds-offers-place g c =
     let e = handed_list list os c.possible_changes-list.ensures.offers in
     place_in_list (plan_for run) view (g.S.Scheduler.meaning c.args.scheduler.now) _ c.choose-place.result (g.met.S.Scheduler.within c.args.scheduler.now) e (omega (arith, ap length e, some_listed list os c.possible_changes-list.ensures.tidy c.possible_changes-list.ensures.offers c.if-list-eq0.false)) c.choose-place.ensures
 
-pub offset-bounds-offers-place : goal.offset-bounds-offers-place
-offset-bounds-offers-place g c =
+pub offset_bounds-offers-place : goal.offset_bounds-offers-place
+offset_bounds-offers-place g c =
     let l : c.choose-place.result.0 < 128 = place_few c.possible_changes-list.result c.choose-place.result.0 c.possible_changes-list.ensures.tidy (bounds-offers-place g c) in
     search rules
 

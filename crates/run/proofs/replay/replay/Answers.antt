@@ -8,7 +8,7 @@ use Rattle.runs.specs.Runs.{opening}
 use Rattle.runs.specs.Tables.{plan_in}
 use Rattle.runs.specs.Telling.{RegionsAndTicksTellTheSame}
 use Rattle.runs.proofs.Agreement.{regions_and_ticks_tell_the_same}
-use Rattle.runs.proofs.Examples.{the_rules_give_the_worked_examples}
+use Rattle.runs.proofs.Worked.{the_rules_give_the_worked_examples}
 use Rattle.offers.proofs.Checking.{as_checked_faultless, plan_sound}
 use Rattle.run.specs.Calls.{Entered, call_of, calls_of}
 use Rattle.run.specs.Views.{plan_for, view_of}
