@@ -5,5 +5,5 @@ mod entries;
 mod files;
 mod limits;
 mod refusals;
-mod runs;
+mod run_ends;
 mod texts;

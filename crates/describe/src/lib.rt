@@ -10,7 +10,7 @@ pub mod faults;
 pub mod history;
 pub mod identifiers;
 pub mod numbers;
-pub mod offers;
+pub mod offered;
 pub mod plans;
 pub mod regions;
 mod seconds;

@@ -1,7 +1,7 @@
 // The command-line program: it reads plan files, tells what is in them and runs them.
 #![tactic(auto)]
 
-mod batch;
+mod batches;
 mod commands;
 mod files;
 mod history;
@@ -13,6 +13,7 @@ mod walk;
 
 use anyhow::anyhow;
 use std::env;
+use std::process::ExitCode;
 
 const USAGE: &str = "junction: runs signal plans over timer regions
 
@@ -77,17 +78,19 @@ fn run(rt: &HostRuntime) -> anyhow::Result<()> {
             Some(path) => walk::regions(rt, path.as_str(), &mut args),
             None => Err(anyhow!("regions takes a plan file: junction regions FILE MOVE..")),
         },
-        "batch" => batch::run_batch(rt, args),
+        "batch" => batches::run_batch(rt, args),
         "replay" => replay::replay_file(rt, args),
         "run" => history::run_plan(rt, args),
         _ => Err(anyhow!("there is no such command: 'junction help' lists them")),
     }
 }
 
-fn main(rt: HostRuntime) -> anyhow::Result<()> {
-    let result = run(&rt);
-    if let Err(e) = &result {
-        let _ = eprintln!(rt; "junction: {e}");
+fn main(rt: HostRuntime) -> ExitCode {
+    match run(&rt) {
+        Ok(()) => ExitCode::SUCCESS,
+        Err(e) => {
+            let _ = eprintln!(rt; "junction: {e}");
+            ExitCode::FAILURE
+        }
     }
-    result
 }

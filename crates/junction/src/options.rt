@@ -132,7 +132,7 @@ fn keep<T: Drop>(heap: Global, name: &str, place: &mut Option<T>, value: T) -> a
 // What is told of an option that a command does not have.
 fn unknown(heap: Global, command: Command, name: &str) -> anyhow::Result<anyhow::Error> {
     let word = command.name();
-    Ok(format!(in heap; "{word} has no option {name}: 'junction help' lists them")?.into())
+    Ok(anyhow!(format!(in heap; "{word} has no option {name}: 'junction help' lists them")?))
 }
 
 impl Given {

@@ -1,8 +1,8 @@
 // What may happen first: the changes of stage 0 that are possible with all timers at zero.
 use crate::files::PlanFile;
-use describe::offers::OfferAtZero;
-use offers::sound_plan::Plan;
+use describe::offered::OfferAtZero;
 use offers::possible::possible_changes;
+use offers::sound_plan::Plan;
 use region::Region;
 
 // Prints each possible change with its waits in seconds and in steps.

@@ -63,7 +63,7 @@ pub fn entries_of(
     };
     match result {
         Ok(()) => Ok(rows),
-        Err(refusal) => Err(refusal.text().into()),
+        Err(refusal) => Err(anyhow!(refusal.text())),
     }
 }
 

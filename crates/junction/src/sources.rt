@@ -1,5 +1,6 @@
 // Where the draws of a run come from.
 use crate::files::text_of;
+use anyhow::anyhow;
 use describe::numbers::number;
 
 // A seed, or a file of recorded numbers.
@@ -29,7 +30,7 @@ fn numbers_in(rt: &HostRuntime, path: &str) -> anyhow::Result<Vec<u32>> {
             let message = format!(in rt.alloc();
                 "number {place} of {path} is not from 0 to 4294967295: {word}"
             )?;
-            return Err(message.into());
+            return Err(anyhow!(message));
         };
         numbers.push(n)?;
     }

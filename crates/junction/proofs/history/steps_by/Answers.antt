@@ -4,4 +4,4 @@ use Rattle.junction.proofs.Repeats.{one_more}
 use Rattle.junction.proofs.history.steps_by.Goals as goal
 
 pub loop-made-preserved : goal.loop-made-preserved
-loop-made-preserved c = search (rules, one_more c.loop-made.-made (Step c.args.scheduler))
+loop-made-preserved c = search (rules, one_more c.loop-made._made (Step c.args.scheduler))

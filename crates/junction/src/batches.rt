@@ -79,7 +79,7 @@ fn rows_of(
     };
     match result {
         Ok(()) => Ok(rows),
-        Err(refusal) => Err(refusal.text().into()),
+        Err(refusal) => Err(anyhow!(refusal.text())),
     }
 }
 
