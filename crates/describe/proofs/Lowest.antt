@@ -1,5 +1,5 @@
 -- A fraction divided through by the greatest common divisor is in lowest terms.
-use Rattle.std.proofs.Common.{◌≡◌, ℕ, ◌+◌, ◌*◌, ◌/◌, ◌%◌, ◌<◌, sym, refl, ap, ◌∙◌, subst, mod-lt, mul-one, arith}
+use Rattle.std.proofs.Common.{◌≡◌, ℕ, ◌+◌, ◌*◌, ◌/◌, ◌%◌, ◌<◌, sym, ap, subst, mod-lt, mul-one, arith}
 use Prim.Native.Nat.{◌∣◌}
 use native.Mathlib.Nat.{dvd-mod_iff, dvd_of_mul-dvd-mul_left, dvd_refl, dvd-zero, eq-one_of_dvd-one, lt_of_mul-lt-mul_left, mul-div_cancel', mul-dvd-mul_left, pos_of_dvd_of_pos, div-add-mod}
 use Rattle.describe.specs.Fractions.{GreatestCommon}

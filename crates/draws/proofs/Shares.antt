@@ -4,7 +4,7 @@ use Rattle.std.proofs.lemmas.List.{take-take}
 use Rattle.std.proofs.lemmas.Bool.{cases_lt, cond-true, cond-false, eq-eqb, ne_eqb}
 use Rattle.runs.specs.Plans.{Outcome, weights}
 use Rattle.runs.specs.Runs.{picked}
-use Rattle.runs.specs.Ticks.{ticket, Picks}
+use Rattle.runs.specs.Ticks.{Picks}
 use Rattle.runs.proofs.Plans.{weights_nil, weights_cons}
 use Rattle.runs.proofs.Picking.{weights_take, one_pick, picked_picks, picks_picked, ticket_fits}
 use Rattle.draws.specs.Tickets.{ticket_among, weight_at, weights_before, InStretch, EveryDrawPicksOneOutcome, EveryOutcomeHasItsOwnStretch, rounded_up, first_draw, number_of, draws_for, EveryOutcomeHasItsShareOfDraws}

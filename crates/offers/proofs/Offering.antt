@@ -1,5 +1,5 @@
 -- One more offer in a list, and the steps of a loop over changes.
-use Rattle.std.proofs.Common.{◌≡◌, ℕ, ◌+◌, ◌-◌, ◌<◌, ◌≤◌, true, false, ◌⊎◌, List, [], ◌∷◌, ◌++◌, map, length, get_or, take, drop, set, replicate, Some, None, Option, sym, refl, ap, ◌∙◌, inl, inr, arith}
+use Rattle.std.proofs.Common.{◌≡◌, ℕ, ◌+◌, ◌-◌, ◌<◌, ◌≤◌, true, false, ◌⊎◌, List, [], ◌++◌, map, length, get_or, take, drop, set, replicate, Some, None, Option, sym, ap, ◌∙◌, inl, inr, arith}
 use Rattle.std.proofs.lemmas.List.{append_assoc, append-nil, drop-drop, drop-replicate, drop-set-lt, get_or-map, length-drop, length-map, length-set, length-take}
 use Rattle.std.proofs.lemmas.Bool.{cases_Bool, cond-false, cond-true}
 use Rattle.rows.specs.declared.tables.ChangeRow.{ChangeRow}
@@ -14,7 +14,7 @@ use Rattle.runs.specs.Runs.{Span, any_in, blank_offer, cuts, guard_span, offer_o
 use Rattle.runs.specs.Tables.{change_of_row, comparison_of_row, plan_in, stage_of_row}
 use Rattle.runs.proofs.Loops.{offers_from_all, offers_from_more_none, offers_from_more_some}
 use Rattle.offers.specs.declared.list.OfferList.{OfferList}
-use Rattle.offers.specs.Lists.{Tidy, in_option, listed, offered}
+use Rattle.offers.specs.Lists.{Tidy, in_option, offered}
 
 -- past one more offer the items are blank still
 blank_after : (items : List Offer) (n : ℕ) (x : Offer) → drop n items ≡ replicate (128 - n) blank_offer → drop (n + 1) (set items n x) ≡ replicate (128 - (n + 1)) blank_offer

@@ -9,8 +9,8 @@ use Rattle.rows.specs.declared.section.SectionName.TheVariants.{Timers, Comparis
 use Rattle.rows.specs.Files.{Read, after, change_at, comparison_at, goal_at, outcome_at, part_in, rows_in, stage_at, timer_at, word_at, from1, from2, from3, from4, from5}
 use Rattle.rows.specs.Plans.{PlanRows, change_bytes, comparison_bytes, counts_of, file_of, front, goal_bytes, outcome_bytes, past, section_bytes, stage_bytes, timer_bytes, word}
 use Rattle.rows.specs.Sections.{count_of, least_of, most_of, size_of}
-use Rattle.rows.specs.Sound.{Fits, Sound}
-use Rattle.rows.proofs.Files.{Cuts, file_from_cuts, length_rows_in, part_within}
+use Rattle.rows.specs.Sound.{Sound}
+use Rattle.rows.proofs.Files.{file_from_cuts, length_rows_in, part_within}
 use Rattle.rows.proofs.Soundness.{sound_from_rows}
 use Rattle.reader.specs.declared.parts.Parts.{Parts}
 use Rattle.reader.specs.declared.section.Section.{Section}

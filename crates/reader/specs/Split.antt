@@ -4,7 +4,7 @@ use Rattle.reader.specs.declared.parts.Parts.{Parts}
 use Rattle.reader.specs.Parts.{Cut, bytes_in}
 use Rattle.rows.specs.declared.section.Counts.{Counts}
 use Rattle.rows.specs.declared.section.SectionName.TheVariants.{Timers, Comparisons, Stages, Changes, Outcomes, Goal}
-use Rattle.rows.specs.Files.{after, change_at, comparison_at, from1, from2, from3, from4, from5, goal_at, outcome_at, rows_in, stage_at, timer_at}
+use Rattle.rows.specs.Files.{change_at, comparison_at, from1, from2, from3, from4, from5, goal_at, outcome_at, rows_in, stage_at, timer_at}
 use Rattle.rows.specs.Plans.{PlanRows}
 use Rattle.rows.specs.Verdicts.{rows_fault}
 

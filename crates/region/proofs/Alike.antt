@@ -1,7 +1,7 @@
 -- Two regions show one record exactly if they agree field by field and row by row.
-use Rattle.std.proofs.Common.{◌≡◌, ℕ, ◌<◌, ◌≤◌, Bool, List, map, length, get_or, take, sym, refl, ap, ◌∙◌, arith}
+use Rattle.std.proofs.Common.{◌≡◌, ℕ, ◌<◌, ◌≤◌, Bool, List, map, length, get_or, take, sym, ap, ◌∙◌, arith}
 use Rattle.std.proofs.lemmas.List.{ext_get_or, get_or-take, length-take-le}
-use Rattle.theory.specs.Records.{Timer, Record, timer_no}
+use Rattle.theory.specs.Records.{Record, timer_no}
 use Rattle.theory.proofs.Waits.{same_record}
 use Rattle.region.specs.declared.value.TimerValue.{TimerValue}
 use Rattle.region.specs.Views.{timer_in, blank, record_in}

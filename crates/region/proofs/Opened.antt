@@ -1,14 +1,13 @@
 -- The record of timers that all stand at zero.
-use Rattle.std.proofs.Common.{◌≡◌, ℕ, zero, suc, ◌<◌, ◌≤◌, true, eqb, List, [], ◌∷◌, map, length, take, replicate, sym, refl, ap, ◌∙◌, subst, arith}
+use Rattle.std.proofs.Common.{◌≡◌, ℕ, zero, suc, ◌≤◌, true, eqb, List, ◌∷◌, map, replicate, sym, refl, ap, ◌∙◌, subst, arith}
 use Rattle.std.proofs.lemmas.List.{take-replicate, length-replicate}
 use Rattle.theory.specs.Settings.{held, total}
-use Rattle.theory.specs.Records.{Timer, Record, Valid, record_of, timer_of, fresh}
+use Rattle.theory.specs.Records.{Valid, record_of, timer_of, fresh}
 use Rattle.theory.proofs.Held.{held_here}
 use Rattle.theory.proofs.Totals.{total_zero, total_suc}
 use Rattle.theory.proofs.Resets.{timer_fresh}
 use Rattle.theory.proofs.Validity.{record_of_is_valid}
 use Rattle.theory.proofs.Waits.{same_record}
-use Rattle.region.specs.declared.value.TimerValue.{TimerValue}
 use Rattle.region.specs.Views.{timer_in, blank, record_in}
 
 map_replicate : {A B : Type 0} (f : A → B) (n : ℕ) (a : A) → map f (replicate n a) ≡ replicate n (f a)

@@ -1,5 +1,5 @@
 -- What the test on the ceilings says of each timer, and the rows after a wait.
-use Rattle.std.proofs.Common.{◌≡◌, ℕ, suc, ◌+◌, ◌-◌, ◌*◌, ◌%◌, ◌<◌, ◌≤◌, Bool, true, false, ◌||◌, eqb, List, ◌++◌, map, length, get_or, take, drop, set, Decides, sym, refl, ap, ◌∙◌, add-one, arith}
+use Rattle.std.proofs.Common.{◌≡◌, ℕ, suc, ◌+◌, ◌-◌, ◌*◌, ◌%◌, ◌<◌, ◌≤◌, Bool, false, ◌||◌, eqb, List, ◌++◌, map, length, get_or, take, drop, set, Decides, sym, refl, ap, ◌∙◌, add-one, arith}
 use mathlib.Core.List.{map-map}
 use Rattle.std.proofs.lemmas.List.Edits.{map_over_more}
 use Rattle.std.proofs.lemmas.List.{get_or-append_right, get_or-drop, get_or_default, length-map, length-take-le, take_at}

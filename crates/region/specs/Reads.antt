@@ -1,5 +1,5 @@
 -- What a region tells of its timers, and when two regions tell the same.
-use Rattle.std.specs.Prelude.{ℕ, min, max, Bool, cond, length, Some, None, Option, nat_lt, slice_index_or}
+use Rattle.std.specs.Prelude.{ℕ, min, max, cond, length, Some, None, Option, nat_lt, slice_index_or}
 use Rattle.theory.specs.Records.{Record, count, timer_no}
 use Rattle.region.specs.declared.value.TimerValue.{TimerValue}
 use Rattle.region.specs.declared.Region.{Region}

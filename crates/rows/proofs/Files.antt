@@ -1,5 +1,5 @@
 -- Reading a file gives the plan back that it is the file of.
-use Rattle.std.proofs.Common.{◌≡◌, ℕ, zero, suc, ◌+◌, ◌*◌, ◌/◌, ◌%◌, ◌<◌, ◌≤◌, List, [], ◌∷◌, ◌++◌, map, length, get_or, take, drop, Some, None, sym, refl, ap, ◌∙◌, subst, add_assoc, mul-le-mul_right, suc-mul, mul-zero, zero-mul, mul-suc, div-mul-le_self, arith}
+use Rattle.std.proofs.Common.{◌≡◌, ℕ, zero, suc, ◌+◌, ◌*◌, ◌/◌, ◌%◌, ◌<◌, ◌≤◌, List, [], ◌∷◌, ◌++◌, map, length, get_or, take, drop, Some, None, sym, refl, ap, ◌∙◌, add_assoc, mul-le-mul_right, suc-mul, mul-zero, zero-mul, mul-suc, div-mul-le_self, arith}
 use native.Mathlib.Nat.{div-eq_of_eq-mul_right}
 use Rattle.std.proofs.lemmas.List.{append-nil, length-append, length-drop, length-take-le, take_at, drop_at, take-append-drop, drop-drop, drop_more, get_or-append-add, ext_get_or}
 use Rattle.std.proofs.lemmas.List.FromFn.{length-map-range_with_len, get_or-map-range_with_len}
@@ -11,16 +11,10 @@ use Rattle.rows.specs.declared.refusal.Refusal.{Refusal}
 use Rattle.rows.specs.declared.section.Counts.{Counts}
 use Rattle.rows.specs.declared.section.SectionName.{SectionName}
 use Rattle.rows.specs.declared.section.SectionName.TheVariants.{Timers, Comparisons, Stages, Changes, Outcomes, Goal}
-use Rattle.rows.specs.declared.tables.TimerRow.{TimerRow}
-use Rattle.rows.specs.declared.tables.ComparisonRow.{ComparisonRow}
-use Rattle.rows.specs.declared.tables.StageRow.{StageRow}
-use Rattle.rows.specs.declared.tables.ChangeRow.{ChangeRow}
-use Rattle.rows.specs.declared.tables.OutcomeRow.{OutcomeRow}
-use Rattle.rows.specs.declared.tables.GoalRow.{GoalRow}
-use Rattle.rows.specs.Files.{word_at, timer_at, comparison_at, stage_at, change_at, outcome_at, goal_at, rows_in, record_bytes, part_in, after, layout_rules, part_fault, layout_fault, file_fault, plan_in, from1, from2, from3, from4, from5}
-use Rattle.rows.specs.Sections.{section_names, size_of, least_of, most_of, count_of}
+use Rattle.rows.specs.Files.{word_at, timer_at, comparison_at, stage_at, change_at, outcome_at, goal_at, rows_in, record_bytes, part_in, after, layout_rules, part_fault, file_fault, plan_in, from1, from2, from3, from4, from5}
+use Rattle.rows.specs.Sections.{size_of, least_of, most_of, count_of}
 use Rattle.rows.specs.Sound.{Fits, Sound}
-use Rattle.rows.specs.Verdicts.{first_broken, fault_at, or_else, off_limits, rows_fault, no_timer, no_comparison, no_stage, no_change, no_outcome, no_goal}
+use Rattle.rows.specs.Verdicts.{first_broken, fault_at, rows_fault, no_timer, no_comparison, no_stage, no_change, no_outcome, no_goal}
 use Rattle.rows.proofs.Soundness.{fault_at_none, kept_from_none, none_from_kept, no_row_fault}
 use Rattle.rows.specs.Plans.{PlanRows, counts_of, file_of, section_bytes, word, timer_bytes, comparison_bytes, stage_bytes, change_bytes, outcome_bytes, goal_bytes}
 

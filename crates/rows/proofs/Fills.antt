@@ -1,5 +1,5 @@
 -- A loop that writes rows into the front of a table, one after the other.
-use Rattle.std.proofs.Common.{◌≡◌, ℕ, suc, ◌+◌, ◌*◌, ◌<◌, ◌≤◌, List, [], ◌∷◌, ◌++◌, length, get_or, take, drop, set, sym, refl, ap, ◌∙◌, suc-mul, mul_comm, zero-mul, arith, take-add}
+use Rattle.std.proofs.Common.{◌≡◌, ℕ, suc, ◌+◌, ◌*◌, ◌<◌, List, [], ◌∷◌, ◌++◌, length, get_or, take, drop, set, sym, refl, ap, ◌∙◌, suc-mul, mul_comm, zero-mul, arith, take-add}
 use Rattle.std.proofs.lemmas.List.{drop-drop, drop-set-lt, flat_map_more, take_all, take-append-drop, take_more, take_more_set}
 use Rattle.std.specs.List.{flat_map}
 

@@ -1,5 +1,5 @@
 -- A plan passes every rule exactly if it is sound.
-use Rattle.std.proofs.Common.{◌≡◌, ℕ, zero, suc, ◌+◌, ◌-◌, ◌^◌, ◌<◌, ◌≤◌, Bool, true, false, cond, not, ◌&&◌, ◌||◌, eqb, ltb, leb, ◌⊎◌, List, [], ◌∷◌, length, get_or, drop, is_some, Some, None, Decides, Option, sym, refl, ap, ◌∙◌, subst, inl, inr, add-zero, arith}
+use Rattle.std.proofs.Common.{◌≡◌, ℕ, zero, suc, ◌+◌, ◌<◌, ◌≤◌, Bool, true, false, cond, not, ◌⊎◌, List, [], ◌∷◌, get_or, is_some, Some, None, Decides, Option, sym, refl, ap, ◌∙◌, subst, inl, inr, arith}
 use Rattle.std.proofs.ByRecursion.{All-get_or, All-from_get_or}
 use Rattle.std.proofs.lemmas.List.{length-take-le}
 use Rattle.std.proofs.lemmas.Bool.{cases_order}
@@ -21,7 +21,7 @@ use Rattle.rows.specs.declared.tables.GoalRow.{GoalRow}
 use Rattle.rows.specs.Plans.{PlanRows, counts_of, front}
 use Rattle.rows.specs.Sections.{count_of, least_of, most_of, section_names}
 use Rattle.rows.specs.Sound.{Fits, Sound, SoundTimer, SoundComparison, SoundStage, SoundChange, SoundOutcome, SoundGoal}
-use Rattle.rows.specs.Verdicts.{Rule, first_broken, fault_at, or_else, record_fault, record_rules, fault_from, first_in, section_fault, rows_fault, count_rules, count_fault, off_limits, faultless, tables_fault, timer_rules, comparison_rules, stage_rules, change_rules, outcome_rules, goal_rules, no_timer, no_comparison, no_stage, no_change, no_outcome, no_goal}
+use Rattle.rows.specs.Verdicts.{Rule, first_broken, fault_at, or_else, record_fault, record_rules, fault_from, first_in, section_fault, rows_fault, count_rules, count_fault, faultless, tables_fault, timer_rules, comparison_rules, stage_rules, change_rules, outcome_rules, goal_rules, no_timer, no_comparison, no_stage, no_change, no_outcome, no_goal}
 use Rattle.rows.proofs.Faults.{fault_from_none, fault_from_suc, first_in_none, first_in_cons}
 
 -- no rule is broken

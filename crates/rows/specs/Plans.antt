@@ -1,9 +1,7 @@
 -- A plan as lists of rows, and the file it is kept in.
-use Rattle.std.specs.Prelude.{◌≡◌, ℕ, ◌+◌, ◌*◌, ◌/◌, ◌%◌, ◌≤◌, List, [], ◌∷◌, ◌++◌, length, take, drop}
+use Rattle.std.specs.Prelude.{ℕ, ◌/◌, ◌%◌, List, [], ◌∷◌, ◌++◌, length, take, drop}
 use Rattle.std.specs.List.{flat_map}
 use Rattle.rows.specs.declared.section.Counts.{Counts}
-use Rattle.rows.specs.declared.section.SectionName.{SectionName}
-use Rattle.rows.specs.declared.section.SectionName.TheVariants.{Timers, Comparisons, Stages, Changes, Outcomes, Goal}
 use Rattle.rows.specs.declared.tables.TimerRow.{TimerRow}
 use Rattle.rows.specs.declared.tables.ComparisonRow.{ComparisonRow}
 use Rattle.rows.specs.declared.tables.StageRow.{StageRow}

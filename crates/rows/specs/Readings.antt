@@ -5,7 +5,6 @@ use Rattle.rows.specs.declared.reading.Mark.{Mark}
 use Rattle.rows.specs.declared.reading.Mark.TheVariants.{Unmarked, Goal, Avoid, Both}
 use Rattle.rows.specs.declared.reading.Relation.{Relation}
 use Rattle.rows.specs.declared.reading.Relation.TheVariants.{AtLeast, Above, AtMost, Below}
-use Rattle.rows.specs.declared.reading.Subject.{Subject}
 use Rattle.rows.specs.declared.reading.Subject.TheVariants.{Timer, Lead}
 use Rattle.rows.specs.declared.tables.ComparisonRow.{ComparisonRow}
 

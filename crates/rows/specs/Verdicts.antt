@@ -1,11 +1,10 @@
 -- Which rule a plan breaks first. The rules are gone through in a fixed order, and the first broken one gives the refusal.
-use Rattle.std.specs.Prelude.{ℕ, zero, suc, ◌+◌, ◌*◌, ◌^◌, Bool, true, false, cond, not, ◌&&◌, ◌||◌, List, [], ◌∷◌, ◌++◌, map, length, is_some, Some, None, Option, ◌==◌, nat_le, nat_lt, slice_index_or}
-use Rattle.std.specs.List.{range_with_len}
+use Rattle.std.specs.Prelude.{ℕ, zero, suc, ◌+◌, ◌^◌, Bool, cond, not, ◌&&◌, ◌||◌, List, [], ◌∷◌, length, is_some, Some, None, Option, ◌==◌, nat_le, nat_lt, slice_index_or}
 use Rattle.rows.specs.declared.fault.Fault.{Fault}
 use Rattle.rows.specs.declared.fault.Where.{Where}
-use Rattle.rows.specs.declared.fault.Where.TheVariants.{File, Section, Record}
+use Rattle.rows.specs.declared.fault.Where.TheVariants.{Section, Record}
 use Rattle.rows.specs.declared.refusal.Refusal.{Refusal}
-use Rattle.rows.specs.declared.refusal.Refusal.TheVariants.{FileEnds, BytesFollow, CountOffLimits, NotThere, BadWeight, BadField, TableTooSmall}
+use Rattle.rows.specs.declared.refusal.Refusal.TheVariants.{CountOffLimits, NotThere, BadWeight, BadField, TableTooSmall}
 use Rattle.rows.specs.declared.section.Counts.{Counts}
 use Rattle.rows.specs.declared.section.SectionName.{SectionName}
 use Rattle.rows.specs.declared.section.SectionName.TheVariants.{Timers, Comparisons, Stages, Changes, Outcomes, Goal}
@@ -16,7 +15,7 @@ use Rattle.rows.specs.declared.tables.ChangeRow.{ChangeRow}
 use Rattle.rows.specs.declared.tables.OutcomeRow.{OutcomeRow}
 use Rattle.rows.specs.declared.tables.GoalRow.{GoalRow}
 use Rattle.rows.specs.Plans.{PlanRows, counts_of}
-use Rattle.rows.specs.Sections.{section_names, size_of, least_of, most_of, count_of}
+use Rattle.rows.specs.Sections.{section_names, least_of, most_of, count_of}
 use Rattle.rows.specs.Sound.{weights_of}
 
 -- whether a rule is broken, and the refusal for that

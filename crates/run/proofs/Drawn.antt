@@ -1,5 +1,5 @@
 -- A draw of a run's source: none is to come, or the first is given and removed.
-use Rattle.std.proofs.Common.{◌≡◌, ℕ, ◌+◌, get_or, Some, None, Ok, Err, Option, Result, sym, refl, ap, ◌∙◌, arith}
+use Rattle.std.proofs.Common.{◌≡◌, ℕ, ◌+◌, get_or, Some, None, Ok, Err, Option, Result, sym, ap, ◌∙◌, arith}
 use Rattle.rows.specs.declared.refusal.Refusal.{Refusal}
 use Rattle.rows.specs.declared.refusal.Refusal.TheVariants.{NoDrawToCome}
 use Rattle.draws.specs.Sources.{drawn, drawn_first}

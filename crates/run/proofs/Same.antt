@@ -1,13 +1,10 @@
 -- Two runs that differ at most in the proofs that they carry.
-use Rattle.std.proofs.Common.{◌≡◌, ℕ, ◌<◌, length}
+use Rattle.std.proofs.Common.{◌≡◌, ◌<◌, length}
 use mathlib.Core.Logic.{∥∥₁_prop}
 use native.Mathlib.Bridge.{le_prop}
-use Rattle.offers.specs.declared.sound_plan.Plan.{Plan}
 use Rattle.offers.specs.Known.{plan_of}
-use Rattle.region.specs.declared.Region.{Region}
 use Rattle.region.specs.Viewed.{viewed}
 use Rattle.runs.specs.Runs.{InBounds}
-use Rattle.runs.specs.declared.Standing.{Standing}
 use Rattle.run.specs.declared.Run.{Run}
 
 -- a run whose source is as it was is as it was

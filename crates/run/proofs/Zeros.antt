@@ -1,5 +1,5 @@
 -- The timers of a checked plan at zero.
-use Rattle.std.proofs.Common.{◌≡◌, ℕ, true, length, replicate, ap, ◌∙◌, arith}
+use Rattle.std.proofs.Common.{◌≡◌, true, length, replicate, ap, ◌∙◌, arith}
 use Rattle.std.proofs.lemmas.List.{length-map}
 use Rattle.region.specs.Reads.{timers_for}
 use Rattle.rows.specs.declared.section.SectionName.TheVariants.{Timers}

@@ -1,12 +1,12 @@
 -- The changes of a stage, by the rows of its table.
-use Rattle.std.proofs.Common.{◌≡◌, ℕ, ◌+◌, ◌-◌, ◌<◌, ◌≤◌, true, false, ◌⊎◌, List, map, length, get_or, take, drop, sym, refl, ap, ◌∙◌, inl, inr, arith}
+use Rattle.std.proofs.Common.{◌≡◌, ℕ, ◌-◌, ◌<◌, ◌≤◌, true, false, ◌⊎◌, List, map, length, get_or, take, drop, sym, ap, ◌∙◌, inl, inr, arith}
 use Rattle.std.proofs.lemmas.List.{get_or-map, length-map}
 use Rattle.std.proofs.lemmas.Bool.{cases_Bool}
 use Rattle.rows.specs.declared.tables.ChangeRow.{ChangeRow}
 use Rattle.rows.specs.declared.tables.StageRow.{StageRow}
 use Rattle.rows.specs.Plans.{PlanRows}
 use Rattle.rows.specs.Verdicts.{no_change}
-use Rattle.runs.specs.Plans.{Change, blank_change, stage_of, change_of}
+use Rattle.runs.specs.Plans.{blank_change, stage_of, change_of}
 use Rattle.runs.specs.Runs.{is_of_stage}
 use Rattle.runs.specs.Tables.{change_of_row, stage_of_row, plan_in}
 use Rattle.runs.proofs.Taking.{is_of_stage_so, of_stage_is}

@@ -1,10 +1,10 @@
 -- Sound tables hold a sound plan.
-use Rattle.std.proofs.Common.{◌≡◌, ℕ, ◌+◌, ◌<◌, ◌≤◌, true, false, ltb, List, [], ◌∷◌, map, length, take, drop, sum_by, sym, refl, ap, ◌∙◌, subst, arith}
+use Rattle.std.proofs.Common.{◌≡◌, ℕ, ◌+◌, ◌≤◌, ltb, List, [], ◌∷◌, map, length, drop, sum_by, sym, ap, ◌∙◌, arith}
 use Rattle.std.specs.List.{AllByRecursion as All}
 use Rattle.std.proofs.ByRecursion.{All-drop, All-map, All-take, All-weaker}
 use Rattle.std.proofs.lemmas.List.{length-drop, length-map, length-take}
 use Rattle.std.proofs.lemmas.List.Sums.{sum_by-cons}
-use Rattle.std.proofs.lemmas.Bool.{cond_both, ltb-true, ltb-false}
+use Rattle.std.proofs.lemmas.Bool.{cond_both, ltb-false}
 use Rattle.region.proofs.Marked.{length_marks}
 use Rattle.rows.specs.declared.tables.ChangeRow.{ChangeRow}
 use Rattle.rows.specs.declared.tables.ComparisonRow.{ComparisonRow}
@@ -14,10 +14,10 @@ use Rattle.rows.specs.declared.tables.StageRow.{StageRow}
 use Rattle.rows.specs.declared.tables.TimerRow.{TimerRow}
 use Rattle.rows.specs.declared.section.SectionName.TheVariants.{Timers, Stages}
 use Rattle.rows.specs.Plans.{PlanRows}
-use Rattle.rows.specs.Sound.{SoundTimer, SoundComparison, SoundStage, SoundChange, SoundOutcome, weights_of}
+use Rattle.rows.specs.Sound.{SoundTimer, SoundComparison, SoundStage, SoundChange, SoundOutcome}
 use Rattle.rows.specs.Sound.{Sound as SoundRows}
-use Rattle.theory.specs.Regions.{Comparison, NamesBelow, timer_against, lead_against}
-use Rattle.runs.specs.Plans.{Plan, Outcome, weights, NamedIn, Sound, SoundPlanStage, SoundPlanChange, SoundPlanOutcome}
+use Rattle.theory.specs.Regions.{NamesBelow, timer_against, lead_against}
+use Rattle.runs.specs.Plans.{weights, NamedIn, Sound, SoundPlanStage, SoundPlanChange, SoundPlanOutcome}
 use Rattle.runs.specs.Tables.{relation_of, comparison_of_row, listed, comparisons_of, outcome_of_row, change_of_row, stage_of_row, goal_of, plan_in}
 use Rattle.runs.proofs.Plans.{weights_nil, weights_cons}
 

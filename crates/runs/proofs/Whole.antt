@@ -12,7 +12,7 @@ use Rattle.theory.proofs.Resets.{length_marked}
 use Rattle.theory.proofs.Multiples.{Multiples, later_keeps_multiples, cleared_keeps_multiples, multiple_of_factor, multiples_of_factor}
 use Rattle.runs.specs.Plans.{Plan, Change, Outcome, blank_outcome, Sound, change_of, weights}
 use Rattle.runs.specs.Ticks.{Ticking, OnPermitted, ticket, Event, go_changing, go_meeting, run_out, used, Changes, Meets, RunsOut, Happens, Move, Moves, all_used, Begins}
-use Rattle.runs.specs.Runs.{top, goal_by, judged, picked_by, Run, Draws, rest_of, is_open, refused, take_call, Scheduler, offers_of, chosen, chosen_wait, shown, Call, Step, Take, Offers, Stands, Reply, answered, offered, standing, make, after, opening}
+use Rattle.runs.specs.Runs.{top, goal_by, judged, picked_by, Run, Draws, rest_of, is_open, refused, take_call, Scheduler, offers_of, chosen, chosen_wait, shown, Call, Step, Take, Offers, Stands, Reply, answered, offered, standing, make, after}
 use Rattle.runs.specs.Telling.{Agree, Offered, OffersRight, Followed, named, TellsEvent, Told, Tells, DrawsFit, TellATickRun, EveryListOfCallsTellsATickRun, AllGranted, OneCallEach, ToldByGrantedCalls, EveryTickRunIsTold, HasOffers}
 use Rattle.runs.specs.declared.Offer.{Offer}
 use Rattle.runs.specs.declared.Answer.{Answer}

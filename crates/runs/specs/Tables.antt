@@ -1,5 +1,5 @@
 -- The plan that a plan's tables hold, every list resolved to the rows that it names.
-use Rattle.std.specs.Prelude.{ℕ, ◌%◌, Bool, cond, ◌||◌, List, [], ◌∷◌, map, length, take, drop, ◌==◌, nat_lt}
+use Rattle.std.specs.Prelude.{ℕ, ◌%◌, cond, ◌||◌, List, [], ◌∷◌, map, length, take, drop, ◌==◌, nat_lt}
 use Rattle.region.specs.Resetting.{marks}
 use Rattle.rows.specs.declared.tables.ChangeRow.{ChangeRow}
 use Rattle.rows.specs.declared.tables.ComparisonRow.{ComparisonRow}

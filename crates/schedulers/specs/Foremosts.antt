@@ -4,11 +4,11 @@ use Rattle.std.proofs.Common.{inl, inr, sym, ap, ◌∙◌, subst, arith}
 use Rattle.std.proofs.lemmas.List.MinMax.{IsFirstBest-unique}
 use Rattle.std.proofs.ByRecursion.{All-get_or}
 use Rattle.std.proofs.lemmas.List.{get_or_default}
-use Rattle.std.proofs.lemmas.Bool.{both_ways, cases_Bool}
+use Rattle.std.proofs.lemmas.Bool.{cases_Bool}
 use Rattle.std.specs.Cmp.{IsStrictWeakOrder}
-use Rattle.std.specs.List.{IsFirstBest, AllByRecursion as All}
+use Rattle.std.specs.List.{IsFirstBest}
 use Rattle.runs.specs.declared.Offer.{Offer}
-use Rattle.runs.specs.Runs.{InRange, Scheduler, blank_offer}
+use Rattle.runs.specs.Runs.{InRange, blank_offer}
 use Rattle.schedulers.specs.Foremost.{foremost_of}
 use Rattle.schedulers.specs.Meanings.{comes_after, comes_before, earliest, latest}
 

@@ -1,6 +1,5 @@
 -- What the three schedulers mean: from a stage, a record and the offers to a place and a wait.
 use Rattle.std.specs.Prelude.{ℕ, ◌+◌, ◌-◌, ◌*◌, ◌/◌, ◌^◌, Bool, List, length, nat_lt, slice_index_or}
-use Rattle.theory.specs.Records.{Record}
 use Rattle.runs.specs.declared.Offer.{Offer}
 use Rattle.runs.specs.Runs.{Scheduler, blank_offer}
 use Rattle.schedulers.specs.Foremost.{foremost_of}

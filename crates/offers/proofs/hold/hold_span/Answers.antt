@@ -1,4 +1,4 @@
-use Rattle.std.proofs.Common.{◌≡◌, ◌+◌, ◌≤◌, map, arith}
+use Rattle.std.proofs.Common.{◌+◌, ◌≤◌, map, arith}
 use Rattle.region.specs.Viewed.{viewed}
 use Rattle.runs.specs.Tables.{comparison_of_row}
 use Rattle.offers.specs.Known.{plan_of, rows_of}

@@ -1,4 +1,4 @@
-use Rattle.std.proofs.Common.{◌≡◌, ◌-◌, ◌%◌, ◌≤◌, ◌∙◌, arith}
+use Rattle.std.proofs.Common.{arith}
 use Rattle.region.specs.Viewed.{viewed}
 use Rattle.runs.proofs.Permits.{the_hold_interval_is_permitted_time}
 use Rattle.offers.specs.Known.{plan_of}

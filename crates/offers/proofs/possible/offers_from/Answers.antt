@@ -1,4 +1,4 @@
-use Rattle.std.proofs.Common.{◌≡◌, map, sym, ◌∙◌, arith}
+use Rattle.std.proofs.Common.{map, sym, ◌∙◌, arith}
 use Rattle.region.specs.Viewed.{viewed}
 use Rattle.rows.specs.Plans.{PlanRows}
 use Rattle.runs.specs.Tables.{change_of_row}

@@ -1,4 +1,4 @@
-use Rattle.std.proofs.Common.{◌≡◌, arith}
+use Rattle.std.proofs.Common.{arith}
 use Rattle.region.specs.Viewed.{viewed}
 use Rattle.rows.specs.Plans.{PlanRows}
 use Rattle.runs.proofs.Offered.{offers_are_the_possible_changes}

@@ -1,4 +1,4 @@
-use Rattle.std.proofs.Common.{◌≡◌, ℕ, Bool, true, false, cond, sym, ap, ◌∙◌}
+use Rattle.std.proofs.Common.{◌≡◌, Bool, true, false, cond, sym, ap, ◌∙◌}
 use Rattle.region.specs.Viewed.{viewed}
 use Rattle.theory.specs.Records.{Record, edge}
 use Rattle.offers.proofs.Comparing.{count_of_missing}

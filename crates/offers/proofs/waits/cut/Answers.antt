@@ -1,4 +1,4 @@
-use Rattle.std.proofs.Common.{◌≡◌, sym, ap, ◌∙◌}
+use Rattle.std.proofs.Common.{◌∙◌}
 use Rattle.region.specs.Viewed.{viewed}
 use Rattle.offers.specs.Waits.{span_of}
 use Rattle.offers.proofs.Comparing.{cut_of_timer, lead_allows, lead_forbids}

@@ -1,4 +1,4 @@
-use Rattle.std.proofs.Common.{◌≡◌, sym, ◌∙◌}
+use Rattle.std.proofs.Common.{sym, ◌∙◌}
 use Rattle.region.specs.Viewed.{viewed}
 use Rattle.runs.proofs.Permits.{allowed_waits_are_true_moments}
 use Rattle.offers.specs.Waits.{span_of}

@@ -1,4 +1,4 @@
-use Rattle.std.proofs.Common.{◌≡◌, ℕ, ◌*◌, ◌≤◌, ap, mul-le-mul, arith}
+use Rattle.std.proofs.Common.{ℕ, ◌*◌, ◌≤◌, ap, mul-le-mul, arith}
 use Rattle.offers.proofs.waits.steps.Goals as goal
 
 pub returns : goal.returns

@@ -1,5 +1,5 @@
-use Rattle.std.proofs.Common.{◌≡◌, ◌-◌, ◌<◌, sym, ap, ◌∙◌, arith}
-use Rattle.rows.specs.Plans.{PlanRows, counts_of}
+use Rattle.std.proofs.Common.{◌≡◌, ◌-◌, sym, ap, ◌∙◌, arith}
+use Rattle.rows.specs.Plans.{PlanRows}
 use Rattle.rows.specs.Sections.{count_of}
 use Rattle.rows.specs.Verdicts.{fault_from}
 use Rattle.rows.proofs.Faults.{this_record, next_record, fault_from_none}

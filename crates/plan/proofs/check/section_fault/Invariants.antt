@@ -1,6 +1,4 @@
 use Rattle.std.proofs.Common.{◌≡◌, ◌-◌}
-use Rattle.rows.specs.Plans.{counts_of}
-use Rattle.rows.specs.Sections.{count_of}
 use Rattle.rows.specs.Verdicts.{fault_from}
 use Rattle.plan.proofs.check.section_fault.Given as goal
 

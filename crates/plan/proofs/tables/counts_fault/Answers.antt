@@ -1,4 +1,4 @@
-use Rattle.std.proofs.Common.{get_or, sym, ap, ◌∙◌}
+use Rattle.std.proofs.Common.{get_or, ap, ◌∙◌}
 use Rattle.rows.specs.declared.fault.Where.TheVariants.{Section}
 use Rattle.rows.specs.declared.section.SectionName.TheVariants.{Timers}
 use Rattle.rows.specs.Sections.{section_names}

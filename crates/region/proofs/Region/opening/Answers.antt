@@ -1,5 +1,4 @@
-use Rattle.std.proofs.Common.{◌≡◌, ◌≤◌, true, replicate, sym, refl, ap, ◌∙◌, rules}
-use Rattle.theory.specs.Records.{record_of, fresh}
+use Rattle.std.proofs.Common.{◌≡◌, ◌≤◌, sym, refl, ◌∙◌, rules}
 use Rattle.theory.proofs.Theorems.{every_record_has_its_region}
 use Rattle.region.specs.Reads.{timers_for}
 use Rattle.region.proofs.Opened.{zero_record, zero_shown, zero_valid}

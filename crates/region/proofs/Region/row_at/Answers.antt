@@ -1,4 +1,4 @@
-use Rattle.std.proofs.Common.{◌≡◌, ◌*◌, ◌/◌, ◌<◌, arith, rules}
+use Rattle.std.proofs.Common.{◌/◌, ◌<◌, arith, rules}
 use Rattle.std.proofs.lemmas.Nat.{div_below}
 use Rattle.region.proofs.Region.row_at.Goals as goal
 

@@ -1,4 +1,4 @@
-use Rattle.std.proofs.Common.{◌≡◌, ℕ, ◌+◌, ◌*◌, ◌≤◌, ltb, length, sym, ap, ◌∙◌, arith}
+use Rattle.std.proofs.Common.{ℕ, ◌+◌, ◌*◌, ◌≤◌, ltb, length, sym, ap, ◌∙◌, arith}
 use Rattle.theory.specs.Records.{Timer, Record, count}
 use Rattle.region.specs.Viewed.{viewed}
 use Rattle.region.proofs.Shown.{timer_shown}

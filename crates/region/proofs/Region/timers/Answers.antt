@@ -1,4 +1,4 @@
-use Rattle.std.proofs.Common.{◌≡◌, ◌≤◌, length, sym, rules}
+use Rattle.std.proofs.Common.{◌≤◌, length, sym, rules}
 use Rattle.region.proofs.Shown.{length_shown}
 use Rattle.region.proofs.Region.timers.Goals as goal
 

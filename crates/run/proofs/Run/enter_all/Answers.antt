@@ -1,4 +1,4 @@
-use Rattle.std.proofs.Common.{◌≡◌, [], ◌∷◌, length, take, refl, ap, ◌∙◌, subst}
+use Rattle.std.proofs.Common.{[], ◌∷◌, length, take, refl, ap, ◌∙◌, subst}
 use Rattle.offers.specs.Known as known
 use Rattle.run.specs.Calls.{Entered, call_of, calls_of}
 use Rattle.run.specs.Views.{plan_for, view_of}

@@ -1,4 +1,4 @@
-use Rattle.std.proofs.Common.{◌≡◌, refl}
+use Rattle.std.proofs.Common.{refl}
 use Rattle.runs.specs.declared.Standing.TheVariants.{Reached}
 use Rattle.run.proofs.Run.meet.Goals as goal
 

@@ -1,4 +1,4 @@
-use Rattle.std.proofs.Common.{◌≡◌, sym, refl, subst}
+use Rattle.std.proofs.Common.{sym, refl, subst}
 use Rattle.offers.specs.Known.{plan_of, rows_of}
 use Rattle.offers.proofs.Checking.{plan_sound}
 use Rattle.plan.specs.Handed.{held_by}

@@ -1,4 +1,4 @@
-use Rattle.std.proofs.Common.{◌≡◌, sym, ◌∙◌}
+use Rattle.std.proofs.Common.{sym, ◌∙◌}
 use Rattle.run.specs.Views.{plan_for, view_of}
 use Rattle.runs.proofs.Calls.{shown_open, shown_not_open}
 use Rattle.run.proofs.Run.offers.Goals as goal

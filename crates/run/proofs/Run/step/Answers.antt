@@ -1,5 +1,4 @@
-use Rattle.std.proofs.Common.{◌≡◌, ℕ, ◌<◌, ◌≤◌, length, Ok, sym, refl, ap, ◌∙◌, arith, rules}
-use Rattle.offers.specs.Lists.{listed}
+use Rattle.std.proofs.Common.{◌≡◌, ℕ, ◌<◌, length, Ok, sym, refl, ap, ◌∙◌, arith, rules}
 use Rattle.runs.specs.Runs.{offers_of}
 use Rattle.runs.proofs.Choosing.{step_not_open, step_runs_out}
 use Rattle.run.specs.Views.{plan_for, view_of}

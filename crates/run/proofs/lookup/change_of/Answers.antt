@@ -1,4 +1,4 @@
-use Rattle.std.proofs.Common.{◌≡◌, take, drop, ap, ◌∙◌, arith}
+use Rattle.std.proofs.Common.{take, drop, ap, ◌∙◌, arith}
 use Rattle.offers.specs.Known.{rows_of}
 use Rattle.rows.specs.Plans.{PlanRows}
 use Rattle.runs.proofs.Own.{own_change, no_own_change}

@@ -1,8 +1,7 @@
-use Rattle.std.proofs.Common.{◌≡◌, ℕ, ◌<◌, ◌≤◌, length, sym, refl, ap, ◌∙◌, subst, arith}
+use Rattle.std.proofs.Common.{◌≡◌, ℕ, refl, ap, ◌∙◌, subst, arith}
 use Rattle.std.proofs.lemmas.List.{length-map}
 use Rattle.offers.specs.Checked.{checked}
 use Rattle.plan.specs.Handed.{held_by}
-use Rattle.logs.specs.Logs.{past_of}
 use Rattle.runs.specs.Plans.{Plan}
 use Rattle.runs.specs.Runs.{opening}
 use Rattle.runs.specs.Tables.{plan_in}

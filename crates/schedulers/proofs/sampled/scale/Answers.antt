@@ -1,4 +1,4 @@
-use Rattle.std.proofs.Common.{◌*◌, ◌/◌, ◌<◌, ◌≤◌, refl, mul-le-mul_right, suc-mul, arith}
+use Rattle.std.proofs.Common.{refl, mul-le-mul_right, arith}
 use Rattle.schedulers.specs.Samples.{scaled_below}
 use Rattle.schedulers.proofs.sampled.scale.Goals as goal
 

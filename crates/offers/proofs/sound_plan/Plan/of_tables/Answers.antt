@@ -1,4 +1,4 @@
-use Rattle.std.proofs.Common.{◌≡◌, refl, ap, ◌∙◌}
+use Rattle.std.proofs.Common.{refl}
 use Rattle.plan.specs.Handed.{held_by}
 use Rattle.rows.specs.Plans.{PlanRows}
 use Rattle.offers.proofs.Checking.{as_checked_faultless, plan_sound}

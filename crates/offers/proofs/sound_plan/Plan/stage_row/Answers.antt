@@ -1,4 +1,4 @@
-use Rattle.std.proofs.Common.{◌≡◌, arith}
+use Rattle.std.proofs.Common.{arith}
 use Rattle.offers.specs.Known.{rows_of}
 use Rattle.offers.proofs.Known.{stage_missing, stage_row_sound, stage_there}
 use Rattle.offers.proofs.sound_plan.Plan.stage_row.Goals as goal

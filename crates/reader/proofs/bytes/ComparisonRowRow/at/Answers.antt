@@ -1,4 +1,4 @@
-use Rattle.std.proofs.Common.{◌+◌, ◌∷◌, get_or, ap, arith}
+use Rattle.std.proofs.Common.{◌+◌, ◌∷◌, get_or, arith}
 use Rattle.rows.specs.Plans.{word}
 use Rattle.rows.proofs.Files.{byte_then}
 use Rattle.reader.proofs.bytes.ComparisonRowRow.at.Goals as goal

@@ -1,4 +1,4 @@
-use Rattle.std.proofs.Common.{◌+◌, ◌++◌, arith}
+use Rattle.std.proofs.Common.{◌+◌, arith}
 use Rattle.rows.specs.Plans.{word}
 use Rattle.rows.proofs.Files.{word_then}
 use Rattle.reader.proofs.bytes.GoalRowRow.at.Goals as goal

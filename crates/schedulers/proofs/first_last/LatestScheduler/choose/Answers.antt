@@ -1,4 +1,4 @@
-use Rattle.std.proofs.Common.{◌≡◌, List, [], sym, refl, ap, ◌∙◌}
+use Rattle.std.proofs.Common.{◌≡◌, [], sym, ap}
 use Rattle.std.proofs.lemmas.List.{nil_from_length}
 use Rattle.region.specs.Viewed.{viewed}
 use Rattle.schedulers.specs.Foremost.{foremost_of}
