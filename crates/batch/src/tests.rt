@@ -143,7 +143,7 @@ fn identifier_4_always_reaches_the_goal(rt: HostRuntime) {
     assert_eq!(rt; answer, Ok(()));
     assert_eq!(rt;
         log.entries(),
-        &[row(0, 2026, 7974, 0, 0), row(4, 10_000, 0, 0, 0)]
+        [row(0, 2026, 7974, 0, 0), row(4, 10_000, 0, 0, 0)].as_slice()
     );
 }
 
@@ -157,7 +157,10 @@ fn a_spent_allowance_leaves_runs_unfinished(rt: HostRuntime) {
     let tape = Tape::new(&HIGHEST, 2);
     let (answer, _) = run_batch(tape, &[0, 4], limits(4, 10, 5), &mut log);
     assert_eq!(rt; answer, Ok(()));
-    assert_eq!(rt; log.entries(), &[row(0, 2, 0, 0, 2), row(4, 0, 0, 0, 4)]);
+    assert_eq!(rt;
+        log.entries(),
+        [row(0, 2, 0, 0, 2), row(4, 0, 0, 0, 4)].as_slice()
+    );
 }
 
 #[test]
@@ -167,7 +170,10 @@ fn a_run_without_draws_is_unfinished(rt: HostRuntime) {
     let tape = Tape::new(&HIGHEST, 2);
     let (answer, _) = run_batch(tape, &[0, 4], limits(5, 10, 16), &mut log);
     assert_eq!(rt; answer, Ok(()));
-    assert_eq!(rt; log.entries(), &[row(0, 4, 0, 0, 1), row(4, 4, 0, 0, 1)]);
+    assert_eq!(rt;
+        log.entries(),
+        [row(0, 4, 0, 0, 1), row(4, 4, 0, 0, 1)].as_slice()
+    );
 }
 
 // What a batch answers that has no rows to write to: 14 for numbers off their limits, and else 13.

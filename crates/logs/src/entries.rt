@@ -66,7 +66,7 @@ mod tests {
         assert_eq!(rt; log.enter(1), Ok(()));
         assert_eq!(rt; log.enter(2), Ok(()));
         assert_eq!(rt; log.enter(3), Err(Refusal::LogFull));
-        assert_eq!(rt; log.entries(), &[1, 2]);
+        assert_eq!(rt; log.entries(), [1u8, 2].as_slice());
         assert_eq!(rt; rows, [1, 2]);
     }
 
