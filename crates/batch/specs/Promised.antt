@@ -1,6 +1,6 @@
 -- What is promised of every batch.
 use Rattle.std.specs.Prelude.{◌≡◌, ℕ, zero, suc, ◌+◌, ◌<◌, ◌≤◌, false, List, map, replicate, is_ok, sum_by}
-use Rattle.std.specs.List.{AllByRecursion as All}
+use Rattle.std.specs.List.{AllByRecursion}
 use Rattle.runs.specs.Plans.{Plan}
 use Rattle.runs.specs.Runs.{Draws, Run, Scheduler, Step, after, opening, step_call}
 use Rattle.runs.specs.Telling.{AllGranted, TellATickRun}
@@ -18,7 +18,7 @@ runs_in row = row.reached + row.failed + row.stuck + row.unfinished
 -- every row of a batch counts as many runs as each identifier has
 abbrev pub TheFourCountsSumToTheRuns : Plan → Book → Draws → Limits → List ℕ → Type 0
 TheFourCountsSumToTheRuns plan book draws limits ids =
-    All (λ row. runs_in row ≡ limits.runs) (all_made plan book draws limits ids).rows
+    AllByRecursion (λ row. runs_in row ≡ limits.runs) (all_made plan book draws limits ids).rows
 
 -- how many of the runs that start rows 0 to n - 1, each with the step limit alone, stand in one way
 unfoldable pub standing_so : Plan → Book → ℕ → ℕ → ℕ → Standing → ℕ

@@ -1,10 +1,10 @@
 -- A plan passes every rule exactly if it is sound.
 use Rattle.std.proofs.Common.{◌≡◌, ℕ, zero, suc, ◌+◌, ◌<◌, ◌≤◌, Bool, true, false, cond, not, ◌⊎◌, List, [], ◌∷◌, get_or, is_some, Some, None, Decides, Option, sym, refl, ap, ◌∙◌, subst, inl, inr, arith}
-use Rattle.std.proofs.ByRecursion.{All-get_or, All-from_get_or}
+use Rattle.std.proofs.ByRecursion.{AllByRecursion-get_or, AllByRecursion-from_get_or}
 use Rattle.std.proofs.lemmas.List.{length-take-le}
 use Rattle.std.proofs.lemmas.Bool.{cases_order}
 use Rattle.std.proofs.lemmas.Bool.Decides.{nat_tests, Decides-at}
-use Rattle.std.specs.List.{AllByRecursion as All}
+use Rattle.std.specs.List.{AllByRecursion}
 use Rattle.rows.specs.declared.fault.Fault.{Fault}
 use Rattle.rows.specs.declared.fault.Where.{Where}
 use Rattle.rows.specs.declared.fault.Where.TheVariants.{Record, Section}
@@ -26,7 +26,7 @@ use Rattle.rows.proofs.Faults.{fault_from_none, fault_from_suc, first_in_none, f
 
 -- no rule is broken
 abbrev pub Kept : List Rule → Type 0
-Kept rules = All (λ r. r.0 ≡ false) rules
+Kept rules = AllByRecursion (λ r. r.0 ≡ false) rules
 
 passed : (b : Bool) (e : Refusal) (o : Option Refusal) → cond b (Some e) o ≡ None → (b ≡ false) × (o ≡ None)
 passed true e o h = absurd (let z : ◌≡◌ {A = ℕ} 0 1 = cc in omega arith)
@@ -148,7 +148,7 @@ kept_section p s i (suc n) h =
 
 -- some sections have no fault exactly if each of them has none
 
-sections_none : (look : SectionName → Option Fault) (names : List SectionName) → first_in look names ≡ None → All (λ s. look s ≡ None) names
+sections_none : (look : SectionName → Option Fault) (names : List SectionName) → first_in look names ≡ None → AllByRecursion (λ s. look s ≡ None) names
 sections_none look [] h = tt
 sections_none look (s ∷ more) h =
     let both = or_else_none (look s) (first_in look more) (sym (first_in_cons look s more) ∙ h) in
@@ -160,7 +160,7 @@ none_sections look (s ∷ more) h =
     first_in_cons look s more ∙ none_or_else (look s) (first_in look more) (h s) (none_sections look more h)
 
 -- what holds of all six sections, one after the other
-each_section : (P : SectionName → Type 0) → All P section_names → (s : SectionName) → P s
+each_section : (P : SectionName → Type 0) → AllByRecursion P section_names → (s : SectionName) → P s
 each_section P h Timers = h.0
 each_section P h Comparisons = h.1.0
 each_section P h Stages = h.1.1.0
@@ -183,12 +183,12 @@ sound_from_rows p enough bounded none =
     record {
       enough = enough;
       bounded = bounded;
-      timers = All-from_get_or SoundTimer p.timers no_timer (λ k l. timer_sound (get_or p.timers k no_timer) (rules Timers k l));
-      comparisons = All-from_get_or (SoundComparison p) p.comparisons no_comparison (λ k l. comparison_sound p (get_or p.comparisons k no_comparison) (rules Comparisons k l));
-      stages = All-from_get_or (SoundStage p) p.stages no_stage (λ k l. stage_sound p (get_or p.stages k no_stage) (rules Stages k l));
-      changes = All-from_get_or (SoundChange p) p.changes no_change (λ k l. change_sound p (get_or p.changes k no_change) (rules Changes k l));
-      outcomes = All-from_get_or (SoundOutcome p) p.outcomes no_outcome (λ k l. outcome_sound p (get_or p.outcomes k no_outcome) (rules Outcomes k l));
-      goals = All-from_get_or (SoundGoal p) p.goals no_goal (λ k l. goal_sound p (get_or p.goals k no_goal) (rules Goal k l));
+      timers = AllByRecursion-from_get_or SoundTimer p.timers no_timer (λ k l. timer_sound (get_or p.timers k no_timer) (rules Timers k l));
+      comparisons = AllByRecursion-from_get_or (SoundComparison p) p.comparisons no_comparison (λ k l. comparison_sound p (get_or p.comparisons k no_comparison) (rules Comparisons k l));
+      stages = AllByRecursion-from_get_or (SoundStage p) p.stages no_stage (λ k l. stage_sound p (get_or p.stages k no_stage) (rules Stages k l));
+      changes = AllByRecursion-from_get_or (SoundChange p) p.changes no_change (λ k l. change_sound p (get_or p.changes k no_change) (rules Changes k l));
+      outcomes = AllByRecursion-from_get_or (SoundOutcome p) p.outcomes no_outcome (λ k l. outcome_sound p (get_or p.outcomes k no_outcome) (rules Outcomes k l));
+      goals = AllByRecursion-from_get_or (SoundGoal p) p.goals no_goal (λ k l. goal_sound p (get_or p.goals k no_goal) (rules Goal k l));
     }
 
 -- no fault in handed tables means that they fit and the plan in them is sound
@@ -204,12 +204,12 @@ sound_from_none rooms n p e h =
     )
 
 record_keeps : (p : PlanRows) → Sound p → (s : SectionName) (k : ℕ) → k < count_of (counts_of p) s → Kept (record_rules p s k)
-record_keeps p h Timers k l = timer_keeps (get_or p.timers k no_timer) (All-get_or SoundTimer p.timers k no_timer l h.timers)
-record_keeps p h Comparisons k l = comparison_keeps p (get_or p.comparisons k no_comparison) (All-get_or (SoundComparison p) p.comparisons k no_comparison l h.comparisons)
-record_keeps p h Stages k l = stage_keeps p (get_or p.stages k no_stage) (All-get_or (SoundStage p) p.stages k no_stage l h.stages)
-record_keeps p h Changes k l = change_keeps p (get_or p.changes k no_change) (All-get_or (SoundChange p) p.changes k no_change l h.changes)
-record_keeps p h Outcomes k l = outcome_keeps p (get_or p.outcomes k no_outcome) (All-get_or (SoundOutcome p) p.outcomes k no_outcome l h.outcomes)
-record_keeps p h Goal k l = goal_keeps p (get_or p.goals k no_goal) (All-get_or (SoundGoal p) p.goals k no_goal l h.goals)
+record_keeps p h Timers k l = timer_keeps (get_or p.timers k no_timer) (AllByRecursion-get_or SoundTimer p.timers k no_timer l h.timers)
+record_keeps p h Comparisons k l = comparison_keeps p (get_or p.comparisons k no_comparison) (AllByRecursion-get_or (SoundComparison p) p.comparisons k no_comparison l h.comparisons)
+record_keeps p h Stages k l = stage_keeps p (get_or p.stages k no_stage) (AllByRecursion-get_or (SoundStage p) p.stages k no_stage l h.stages)
+record_keeps p h Changes k l = change_keeps p (get_or p.changes k no_change) (AllByRecursion-get_or (SoundChange p) p.changes k no_change l h.changes)
+record_keeps p h Outcomes k l = outcome_keeps p (get_or p.outcomes k no_outcome) (AllByRecursion-get_or (SoundOutcome p) p.outcomes k no_outcome l h.outcomes)
+record_keeps p h Goal k l = goal_keeps p (get_or p.goals k no_goal) (AllByRecursion-get_or (SoundGoal p) p.goals k no_goal l h.goals)
 
 pub no_row_fault : (p : PlanRows) → Sound p → rows_fault p ≡ None
 no_row_fault p h =

@@ -1,6 +1,6 @@
 -- When a plan is sound: every number in its limits, and nothing named that is not there.
 use Rattle.std.specs.Prelude.{◌≡◌, ℕ, ◌+◌, ◌^◌, ◌<◌, ◌≤◌, length, take, drop, sum_by}
-use Rattle.std.specs.List.{AllByRecursion as All}
+use Rattle.std.specs.List.{AllByRecursion}
 use Rattle.rows.specs.declared.section.Counts.{Counts}
 use Rattle.rows.specs.declared.section.SectionName.{SectionName}
 use Rattle.rows.specs.declared.tables.TimerRow.{TimerRow}
@@ -68,9 +68,9 @@ Fits n rooms = (s : SectionName) → count_of n s ≤ count_of rooms s
 pub record Sound (p : PlanRows) : Type 0 where
   pub enough : (s : SectionName) → least_of s ≤ count_of (counts_of p) s
   pub bounded : (s : SectionName) → count_of (counts_of p) s ≤ most_of s
-  pub timers : All SoundTimer p.timers
-  pub comparisons : All (SoundComparison p) p.comparisons
-  pub stages : All (SoundStage p) p.stages
-  pub changes : All (SoundChange p) p.changes
-  pub outcomes : All (SoundOutcome p) p.outcomes
-  pub goals : All (SoundGoal p) p.goals
+  pub timers : AllByRecursion SoundTimer p.timers
+  pub comparisons : AllByRecursion (SoundComparison p) p.comparisons
+  pub stages : AllByRecursion (SoundStage p) p.stages
+  pub changes : AllByRecursion (SoundChange p) p.changes
+  pub outcomes : AllByRecursion (SoundOutcome p) p.outcomes
+  pub goals : AllByRecursion (SoundGoal p) p.goals

@@ -1,6 +1,6 @@
 -- What a step does with the pair that its scheduler chooses.
 use Rattle.std.proofs.Common.{◌≡◌, ℕ, ◌-◌, ◌<◌, ◌≤◌, true, List, [], length, get_or, take, sym, ap, ◌∙◌, subst, arith}
-use Rattle.std.specs.List.{AllByRecursion as All}
+use Rattle.std.specs.List.{AllByRecursion}
 use Rattle.std.proofs.lemmas.List.{length-take}
 use Rattle.offers.specs.declared.list.OfferList.{OfferList}
 use Rattle.offers.specs.Lists.{Tidy, listed}
@@ -26,7 +26,7 @@ none_listed o os e n = sym e ∙ ap (λ k. take k o.items) n
 -- the place that a scheduler chooses is in the list
 pub place_in_list : (plan : Plan) (run : Run) (f : Scheduler) (os : List Offer) (answer : ℕ × ℕ) → InRange f → os ≡ offers_of plan run → 1 ≤ length os → answer ≡ f run.stage run.region os → answer.0 < length os
 place_in_list plan run f os answer h e l a =
-    omega (arith, ap (λ (z : ℕ × ℕ). z.0) a, (h run.stage run.region os l (subst (All (λ (o : Offer). o.lowest ≤ o.highest)) (sym e) (offers_in_order plan run.stage run.region))).0)
+    omega (arith, ap (λ (z : ℕ × ℕ). z.0) a, (h run.stage run.region os l (subst (AllByRecursion (λ (o : Offer). o.lowest ≤ o.highest)) (sym e) (offers_in_order plan run.stage run.region))).0)
 
 -- a step does what a take of the chosen pair does
 pub takes_the_choice : (plan : Plan) (run : Run) (f : Scheduler) (os : List Offer) (answer : ℕ × ℕ) (outturn : Outturn) → is_open run.standing ≡ true → os ≡ offers_of plan run → 1 ≤ length os → answer ≡ f run.stage run.region os → take_call plan run (get_or os answer.0 blank_offer).change answer.1 ≡ outturn → step_call plan f run ≡ outturn

@@ -1,6 +1,6 @@
 -- The waits that comparisons allow, as spans.
 use Rattle.std.proofs.Common.{◌≡◌, ℕ, ◌+◌, ◌*◌, ◌<◌, ◌≤◌, Bool, true, false, cond, ltb, leb, ◌⊎◌, ◌↔◌, List, [], ◌∷◌, length, get_or, drop, sym, refl, ◌∙◌, subst, inl, inr, arith}
-use Rattle.std.specs.List.{AllByRecursion as All}
+use Rattle.std.specs.List.{AllByRecursion}
 use Rattle.std.proofs.lemmas.List.{at_drop_more, at_drop_all}
 use Rattle.std.proofs.lemmas.Bool.{cases_Bool, and_parts, and_from, leb-true, ltb-true, le-leb, lt-ltb, ltb-false}
 use Rattle.theory.specs.Settings.{reach}
@@ -99,18 +99,18 @@ within_cut r (lead_against i j ~ m) d x =
         both t = let z : ◌≡◌ {A = Bool} true false = sym t.1 ∙ t.0 in let y : ◌≡◌ {A = ℕ} 0 1 = cc in omega arith
 
 -- a wait is left by all cuts exactly if it was there and every comparison allows it
-pub within_cuts : (r : Record) (cs : List Comparison) (d : ℕ) (x : Span) → Within d (cuts r cs x) ↔ (Within d x × All (Allows r d) cs)
+pub within_cuts : (r : Record) (cs : List Comparison) (d : ℕ) (x : Span) → Within d (cuts r cs x) ↔ (Within d x × AllByRecursion (Allows r d) cs)
 within_cuts r [] d x =
     subst (λ y. Within d y ↔ (Within d x × Unit {0})) (sym (cuts_nil r x)) (λ h. (h, tt), λ h. h.0)
 within_cuts r (c ∷ cs) d x =
-    subst (λ y. Within d y ↔ (Within d x × All (Allows r d) (c ∷ cs))) (sym (cuts_cons r c cs x)) (go (within_cuts r cs d (cut r c x)) (within_cut r c d x))
+    subst (λ y. Within d y ↔ (Within d x × AllByRecursion (Allows r d) (c ∷ cs))) (sym (cuts_cons r c cs x)) (go (within_cuts r cs d (cut r c x)) (within_cut r c d x))
   where
-    go : Within d (cuts r cs (cut r c x)) ↔ (Within d (cut r c x) × All (Allows r d) cs) → Within d (cut r c x) ↔ (Within d x × Allows r d c) → Within d (cuts r cs (cut r c x)) ↔ (Within d x × (Allows r d c × All (Allows r d) cs))
+    go : Within d (cuts r cs (cut r c x)) ↔ (Within d (cut r c x) × AllByRecursion (Allows r d) cs) → Within d (cut r c x) ↔ (Within d x × Allows r d c) → Within d (cuts r cs (cut r c x)) ↔ (Within d x × (Allows r d c × AllByRecursion (Allows r d) cs))
     go f g =
         (λ h. let a = f.0 h in let b = g.0 a.0 in (b.0, (b.1, a.1)), λ h. f.1 (g.1 (h.0, h.1.0), h.1.1))
 
 -- comparisons that are true at a moment allow its wait, and the other way round
-pub holds_allows : (D : ℕ) (v : List ℕ) (p q : ℕ) → 1 ≤ D → 1 ≤ q → (cs : List Comparison) → All (NamesBelow (length v)) cs → Holds D v p q cs ↔ All (Allows (record_of D v) (reach D v p q)) cs
+pub holds_allows : (D : ℕ) (v : List ℕ) (p q : ℕ) → 1 ≤ D → 1 ≤ q → (cs : List Comparison) → AllByRecursion (NamesBelow (length v)) cs → Holds D v p q cs ↔ AllByRecursion (Allows (record_of D v) (reach D v p q)) cs
 holds_allows D v p q d k [] n = (λ _. tt, λ _. tt)
 holds_allows D v p q d k (c ∷ cs) n =
     let here = true_is_allowed D v p q d k c n.0 in

@@ -1,6 +1,6 @@
 -- The goal is on at a moment exactly if the record has it on at the moment's wait.
 use Rattle.std.proofs.Common.{◌≡◌, ℕ, ◌≤◌, Bool, true, false, cond, ◌&&◌, ◌↔◌, List, length, sym, refl, ◌∙◌, subst, arith}
-use Rattle.std.specs.List.{AllByRecursion as All}
+use Rattle.std.specs.List.{AllByRecursion}
 use Rattle.std.proofs.lemmas.Bool.{and_parts, and_from, both_ways}
 use Rattle.theory.specs.Settings.{reach, steps}
 use Rattle.theory.specs.Records.{Record, record_of}
@@ -20,13 +20,13 @@ unfolding goal_by
 goal_by_is plan i r d = refl
 
 -- the goal is on by d exactly if the stage is marked for it and some wait up to d is allowed by its comparisons
-pub goal_by_some : (plan : Plan) (i : ℕ) (r : Record) (d : ℕ) → goal_by plan i r d ≡ true → ((stage_of plan i).goal ≡ true) × ((e : ℕ) × (e ≤ d) × All (Allows r e) plan.goal)
+pub goal_by_some : (plan : Plan) (i : ℕ) (r : Record) (d : ℕ) → goal_by plan i r d ≡ true → ((stage_of plan i).goal ≡ true) × ((e : ℕ) × (e ≤ d) × AllByRecursion (Allows r e) plan.goal)
 goal_by_some plan i r d h =
     let a = and_parts (stage_of plan i).goal (any_in (cuts r plan.goal (upto d))) (sym (goal_by_is plan i r d) ∙ h) in
     let b = (within_cuts r plan.goal (cuts r plan.goal (upto d)).from (upto d)).0 (any_within (cuts r plan.goal (upto d)) a.1) in
     (a.0, ((cuts r plan.goal (upto d)).from, omega (arith, b.0), b.1))
 
-pub some_goal_by : (plan : Plan) (i : ℕ) (r : Record) (d e : ℕ) → (stage_of plan i).goal ≡ true → e ≤ d → All (Allows r e) plan.goal → goal_by plan i r d ≡ true
+pub some_goal_by : (plan : Plan) (i : ℕ) (r : Record) (d e : ℕ) → (stage_of plan i).goal ≡ true → e ≤ d → AllByRecursion (Allows r e) plan.goal → goal_by plan i r d ≡ true
 some_goal_by plan i r d e g l h =
     goal_by_is plan i r d ∙ and_from (stage_of plan i).goal (any_in (cuts r plan.goal (upto d))) g (within_any e (cuts r plan.goal (upto d)) ((within_cuts r plan.goal e (upto d)).1 ((omega arith, omega arith), h)))
 
@@ -36,9 +36,9 @@ on_goal_by plan i D v p q d s h n k l o =
     some_goal_by plan i (record_of D v) d (reach D v p q) o.0 l ((holds_allows D v p q h k plan.goal (named_like plan v plan.goal n s.goal_named)).0 o.1)
 
 -- allowed at the wait of a moment, on at the moment
-pub allows_on : (plan : Plan) (i D : ℕ) (v : List ℕ) (p q e : ℕ) → Sound plan → 1 ≤ D → length v ≡ length plan.ceilings → 1 ≤ q → reach D v p q ≡ e → (stage_of plan i).goal ≡ true → All (Allows (record_of D v) e) plan.goal → On plan i D v p q
+pub allows_on : (plan : Plan) (i D : ℕ) (v : List ℕ) (p q e : ℕ) → Sound plan → 1 ≤ D → length v ≡ length plan.ceilings → 1 ≤ q → reach D v p q ≡ e → (stage_of plan i).goal ≡ true → AllByRecursion (Allows (record_of D v) e) plan.goal → On plan i D v p q
 allows_on plan i D v p q e s h n k w g a =
-    (g, (holds_allows D v p q h k plan.goal (named_like plan v plan.goal n s.goal_named)).1 (subst (λ z. All (Allows (record_of D v) z) plan.goal) (sym w) a))
+    (g, (holds_allows D v p q h k plan.goal (named_like plan v plan.goal n s.goal_named)).1 (subst (λ z. AllByRecursion (Allows (record_of D v) z) plan.goal) (sym w) a))
 
 -- the goal is on within t ticks exactly if it is on by their wait
 pub within_goal_by : (plan : Plan) (i D : ℕ) (v : List ℕ) (t : ℕ) → Sound plan → 1 ≤ D → length v ≡ length plan.ceilings → OnWithin plan i D v t ↔ (goal_by plan i (record_of D v) (steps D v t) ≡ true)

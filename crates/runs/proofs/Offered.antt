@@ -1,7 +1,7 @@
 -- The offers are the possible changes.
 use Rattle.std.proofs.Common.{◌≡◌, ℕ, zero, suc, ◌+◌, ◌-◌, ◌<◌, ◌≤◌, true, false, cond, ◌⊎◌, ◌↔◌, List, [], ◌∷◌, length, get_or, sym, refl, ap, ◌∙◌, subst, inl, inr, arith}
-use Rattle.std.specs.List.{AllByRecursion as All}
-use Rattle.std.proofs.ByRecursion.{All-get_or, All-weaker}
+use Rattle.std.specs.List.{AllByRecursion}
+use Rattle.std.proofs.ByRecursion.{AllByRecursion-get_or, AllByRecursion-weaker}
 use Rattle.std.proofs.lemmas.Bool.{cases_Bool, cond-true, cond-false}
 use Rattle.theory.specs.Settings.{reach}
 use Rattle.theory.specs.Records.{Record, record_of}
@@ -46,15 +46,15 @@ comes_later r last c x xs o h =
     record { place = suc h.place; in_list = omega (arith, h.in_list); its_change = omega (arith, h.its_change); its_lowest = h.its_lowest; its_highest = h.its_highest; its_waits = h.its_waits }
 
 -- every offer comes from a change of the list
-pub offers_come : (r : Record) (last c : ℕ) (xs : List Change) → All (ComesFrom r last c xs) (offers_from r last c xs)
-offers_come r last c [] = subst (All (ComesFrom r last c [])) (sym (offers_from_nil r last c)) tt
+pub offers_come : (r : Record) (last c : ℕ) (xs : List Change) → AllByRecursion (ComesFrom r last c xs) (offers_from r last c xs)
+offers_come r last c [] = subst (AllByRecursion (ComesFrom r last c [])) (sym (offers_from_nil r last c)) tt
 offers_come r last c (x ∷ xs) =
-    go (cases_Bool (any_in (guard_span r last x.guard))) (All-weaker (ComesFrom r last (suc c) xs) (ComesFrom r last c (x ∷ xs)) (comes_later r last c x xs) (offers_from r last (suc c) xs) (offers_come r last (suc c) xs))
+    go (cases_Bool (any_in (guard_span r last x.guard))) (AllByRecursion-weaker (ComesFrom r last (suc c) xs) (ComesFrom r last c (x ∷ xs)) (comes_later r last c x xs) (offers_from r last (suc c) xs) (offers_come r last (suc c) xs))
   where
-    go : (any_in (guard_span r last x.guard) ≡ true) ⊎ (any_in (guard_span r last x.guard) ≡ false) → All (ComesFrom r last c (x ∷ xs)) (offers_from r last (suc c) xs) → All (ComesFrom r last c (x ∷ xs)) (offers_from r last c (x ∷ xs))
+    go : (any_in (guard_span r last x.guard) ≡ true) ⊎ (any_in (guard_span r last x.guard) ≡ false) → AllByRecursion (ComesFrom r last c (x ∷ xs)) (offers_from r last (suc c) xs) → AllByRecursion (ComesFrom r last c (x ∷ xs)) (offers_from r last c (x ∷ xs))
     go (inl e) rest =
-        subst (All (ComesFrom r last c (x ∷ xs))) (sym (offers_from_some r last c x xs e)) (record { place = 0; in_list = omega arith; its_change = omega arith; its_lowest = refl; its_highest = refl; its_waits = e }, rest)
-    go (inr e) rest = subst (All (ComesFrom r last c (x ∷ xs))) (sym (offers_from_none r last c x xs e)) rest
+        subst (AllByRecursion (ComesFrom r last c (x ∷ xs))) (sym (offers_from_some r last c x xs e)) (record { place = 0; in_list = omega arith; its_change = omega arith; its_lowest = refl; its_highest = refl; its_waits = e }, rest)
+    go (inr e) rest = subst (AllByRecursion (ComesFrom r last c (x ∷ xs))) (sym (offers_from_none r last c x xs e)) rest
 
 -- every change whose guard allows a wait is offered
 pub change_is_offered : (r : Record) (last c : ℕ) (xs : List Change) (j : ℕ) → j < length xs → any_in (guard_span r last (get_or xs j blank_change).guard) ≡ true → Offered (offers_from r last c xs) (c + j)
@@ -77,9 +77,9 @@ pub record OfferOfStage (plan : Plan) (i : ℕ) (r : Record) (o : Offer) : Type 
   pub its_highest : o.highest ≡ (guard_span r (top plan i r) (change_of plan i o.change).guard).until - 1
   pub its_waits : any_in (guard_span r (top plan i r) (change_of plan i o.change).guard) ≡ true
 
-pub offers_of_stage : (plan : Plan) (i : ℕ) (r : Record) → All (OfferOfStage plan i r) (offers_at plan i r)
+pub offers_of_stage : (plan : Plan) (i : ℕ) (r : Record) → AllByRecursion (OfferOfStage plan i r) (offers_at plan i r)
 offers_of_stage plan i r =
-    All-weaker (ComesFrom r (top plan i r) (stage_of plan i).first (stage_of plan i).changes) (OfferOfStage plan i r) here (offers_at plan i r) (offers_come r (top plan i r) (stage_of plan i).first (stage_of plan i).changes)
+    AllByRecursion-weaker (ComesFrom r (top plan i r) (stage_of plan i).first (stage_of plan i).changes) (OfferOfStage plan i r) here (offers_at plan i r) (offers_come r (top plan i r) (stage_of plan i).first (stage_of plan i).changes)
   where
     here : (o : Offer) → ComesFrom r (top plan i r) (stage_of plan i).first (stage_of plan i).changes o → OfferOfStage plan i r o
     here o h =
@@ -100,13 +100,13 @@ offer_in_order plan i r o h =
     let c = (within_cuts r (change_of plan i o.change).guard (x.until - 1) (upto (top plan i r))).0 b in
     (omega (arith, a, h.its_lowest, h.its_highest), omega (arith, c.0, h.its_highest))
 
-pub offers_in_order : (plan : Plan) (i : ℕ) (r : Record) → All (λ o. o.lowest ≤ o.highest) (offers_at plan i r)
+pub offers_in_order : (plan : Plan) (i : ℕ) (r : Record) → AllByRecursion (λ o. o.lowest ≤ o.highest) (offers_at plan i r)
 offers_in_order plan i r =
-    All-weaker (OfferOfStage plan i r) (λ o. o.lowest ≤ o.highest) (λ o h. (offer_in_order plan i r o h).0) (offers_at plan i r) (offers_of_stage plan i r)
+    AllByRecursion-weaker (OfferOfStage plan i r) (λ o. o.lowest ≤ o.highest) (λ o h. (offer_in_order plan i r o h).0) (offers_at plan i r) (offers_of_stage plan i r)
 
-pub offers_within_hold : (plan : Plan) (i : ℕ) (r : Record) → All (λ o. o.highest ≤ top plan i r) (offers_at plan i r)
+pub offers_within_hold : (plan : Plan) (i : ℕ) (r : Record) → AllByRecursion (λ o. o.highest ≤ top plan i r) (offers_at plan i r)
 offers_within_hold plan i r =
-    All-weaker (OfferOfStage plan i r) (λ o. o.highest ≤ top plan i r) (λ o h. (offer_in_order plan i r o h).1) (offers_at plan i r) (offers_of_stage plan i r)
+    AllByRecursion-weaker (OfferOfStage plan i r) (λ o. o.highest ≤ top plan i r) (λ o h. (offer_in_order plan i r o h).1) (offers_at plan i r) (offers_of_stage plan i r)
 
 -- a wait between the ends of an offer is one that the guard allows
 pub offer_within : (plan : Plan) (i : ℕ) (r : Record) (o : Offer) (d : ℕ) → OfferOfStage plan i r o → ((o.lowest ≤ d) × (d ≤ o.highest)) ↔ Within d (guard_span r (top plan i r) (change_of plan i o.change).guard)
@@ -121,7 +121,7 @@ offered_is plan i r c = (to, from)
   where
     to : Offered (offers_at plan i r) c → OfStage plan i c × (any_in (guard_span r (top plan i r) (change_of plan i c).guard) ≡ true)
     to w =
-        let h = All-get_or (OfferOfStage plan i r) (offers_at plan i r) w.0 blank_offer w.1 (offers_of_stage plan i r) in
+        let h = AllByRecursion-get_or (OfferOfStage plan i r) (offers_at plan i r) w.0 blank_offer w.1 (offers_of_stage plan i r) in
         (subst (OfStage plan i) w.2 h.of_stage, subst (λ z. any_in (guard_span r (top plan i r) (change_of plan i z).guard) ≡ true) w.2 h.its_waits)
 
     from : OfStage plan i c × (any_in (guard_span r (top plan i r) (change_of plan i c).guard) ≡ true) → Offered (offers_at plan i r) c
@@ -140,12 +140,12 @@ within_guard plan i D v s h n c d = (to, from)
     to k =
         let a = (within_cuts r (change_of plan i c).guard d (upto (top plan i r))).0 k in
         let w = moment_for plan i D v s h n d (omega (arith, a.0)) in
-        (w.0, w.1, w.2, w.3, (holds_allows D v w.0 w.1 h w.2.a_moment (change_of plan i c).guard (named_like plan v (change_of plan i c).guard n (guard_is_named plan s i c))).1 (subst (λ z. All (Allows r z) (change_of plan i c).guard) (sym w.2.its_wait) a.1))
+        (w.0, w.1, w.2, w.3, (holds_allows D v w.0 w.1 h w.2.a_moment (change_of plan i c).guard (named_like plan v (change_of plan i c).guard n (guard_is_named plan s i c))).1 (subst (λ z. AllByRecursion (Allows r z) (change_of plan i c).guard) (sym w.2.its_wait) a.1))
 
     from : GuardTrueAt plan i D v c d → Within d (guard_span r (top plan i r) (change_of plan i c).guard)
     from w =
         let l = permitted_reach plan i D v w.0 w.1 s h n w.2.a_moment w.3 in
-        (within_cuts r (change_of plan i c).guard d (upto (top plan i r))).1 ((omega arith, omega (arith, l, w.2.its_wait)), subst (λ z. All (Allows r z) (change_of plan i c).guard) w.2.its_wait ((holds_allows D v w.0 w.1 h w.2.a_moment (change_of plan i c).guard (named_like plan v (change_of plan i c).guard n (guard_is_named plan s i c))).0 w.4))
+        (within_cuts r (change_of plan i c).guard d (upto (top plan i r))).1 ((omega arith, omega (arith, l, w.2.its_wait)), subst (λ z. AllByRecursion (Allows r z) (change_of plan i c).guard) w.2.its_wait ((holds_allows D v w.0 w.1 h w.2.a_moment (change_of plan i c).guard (named_like plan v (change_of plan i c).guard n (guard_is_named plan s i c))).0 w.4))
 
 pub offered_is_possible : (plan : Plan) (i D : ℕ) (v : List ℕ) → Sound plan → 1 ≤ D → length v ≡ length plan.ceilings → (c : ℕ) → Offered (offers_at plan i (record_of D v)) c ↔ Possible plan i D v c
 offered_is_possible plan i D v s h n c = (to, from)
@@ -180,6 +180,6 @@ pub offers_are_the_possible_changes : OffersAreThePossibleChanges
 offers_are_the_possible_changes =
     record {
       offered = offered_is_possible;
-      waits = λ plan i D v s h n. All-weaker (OfferOfStage plan i (record_of D v)) (λ o. (d : ℕ) → ((o.lowest ≤ d) × (d ≤ o.highest)) ↔ GuardTrueAt plan i D v o.change d) (offer_waits plan i D v s h n) (offers_at plan i (record_of D v)) (offers_of_stage plan i (record_of D v));
-      ends = λ plan i D v s h n. All-weaker (OfferOfStage plan i (record_of D v)) (λ o. FirstAndLast (GuardTrueAt plan i D v o.change) o.lowest o.highest) (offer_ends plan i D v s h n) (offers_at plan i (record_of D v)) (offers_of_stage plan i (record_of D v));
+      waits = λ plan i D v s h n. AllByRecursion-weaker (OfferOfStage plan i (record_of D v)) (λ o. (d : ℕ) → ((o.lowest ≤ d) × (d ≤ o.highest)) ↔ GuardTrueAt plan i D v o.change d) (offer_waits plan i D v s h n) (offers_at plan i (record_of D v)) (offers_of_stage plan i (record_of D v));
+      ends = λ plan i D v s h n. AllByRecursion-weaker (OfferOfStage plan i (record_of D v)) (λ o. FirstAndLast (GuardTrueAt plan i D v o.change) o.lowest o.highest) (offer_ends plan i D v s h n) (offers_at plan i (record_of D v)) (offers_of_stage plan i (record_of D v));
     }

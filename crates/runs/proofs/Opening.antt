@@ -2,7 +2,7 @@
 use Rattle.std.proofs.Common.{◌≡◌, ℕ, zero, suc, ◌%◌, ◌≤◌, ◌∷◌, map, length, replicate, sym, refl, ap, ◌∙◌, ap₂, arith}
 use native.Mathlib.Nat.{zero-mod}
 use lib.ListN.{length-replicate}
-use Rattle.std.specs.List.{AllByRecursion as All}
+use Rattle.std.specs.List.{AllByRecursion}
 use Rattle.std.proofs.lemmas.Bool.{eq-eqb}
 use Rattle.theory.specs.Settings.{total, held}
 use Rattle.theory.specs.Records.{timer_of, record_of}
@@ -16,7 +16,7 @@ use Rattle.runs.specs.Ticks.{Ticking, Begins}
 use Rattle.runs.specs.Runs.{Run, Draws, judged, all_zero, opening}
 use Rattle.runs.proofs.Goals.{judged_so, judged_alike}
 
-pub all_replicate : {A : Type 0} (P : A → Type 0) (n : ℕ) (a : A) → P a → All P (replicate n a)
+pub all_replicate : {A : Type 0} (P : A → Type 0) (n : ℕ) (a : A) → P a → AllByRecursion P (replicate n a)
 all_replicate P zero a h = tt
 all_replicate P (suc n) a h = (h, all_replicate P n a h)
 

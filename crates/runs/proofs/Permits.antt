@@ -1,6 +1,6 @@
 -- The hold interval is the waits of the permitted moments.
 use Rattle.std.proofs.Common.{◌≡◌, ℕ, zero, suc, ◌+◌, ◌-◌, ◌*◌, ◌<◌, ◌≤◌, min, true, false, cond, ◌⊎◌, ◌↔◌, List, [], ◌∷◌, length, get_or, drop, sym, refl, ap, ◌∙◌, subst, inl, inr, arith}
-use Rattle.std.specs.List.{AllByRecursion as All}
+use Rattle.std.specs.List.{AllByRecursion}
 use Rattle.std.proofs.lemmas.List.{at_drop_more, at_drop_all}
 use Rattle.std.proofs.lemmas.Bool.{cases_Bool, cond-true, cond-false}
 use Rattle.theory.specs.Settings.{reach}
@@ -65,29 +65,29 @@ room_under r best i (m ∷ ms) (suc j) h =
     e = omega arith
 
 -- a wait above 0 within the room, and every shorter one, passes no ceiling
-pub room_allows : (r : Record) (best i : ℕ) (ms : List ℕ) (d e : ℕ) → 0 < d → e ≤ d → d ≤ room r best i ms → All (Allows r e) (limits i ms)
-room_allows r best i [] d e z l h = subst (All (Allows r e)) (sym (limits_nil i)) tt
+pub room_allows : (r : Record) (best i : ℕ) (ms : List ℕ) (d e : ℕ) → 0 < d → e ≤ d → d ≤ room r best i ms → AllByRecursion (Allows r e) (limits i ms)
+room_allows r best i [] d e z l h = subst (AllByRecursion (Allows r e)) (sym (limits_nil i)) tt
 room_allows r best i (m ∷ ms) d e z l h =
-    subst (All (Allows r e)) (sym (limits_cons i m ms)) (omega (arith, room_cons r best i m ms, room_best r best' (suc i) ms), room_allows r best' (suc i) ms d e z l (omega (arith, room_cons r best i m ms)))
+    subst (AllByRecursion (Allows r e)) (sym (limits_cons i m ms)) (omega (arith, room_cons r best i m ms, room_best r best' (suc i) ms), room_allows r best' (suc i) ms d e z l (omega (arith, room_cons r best i m ms)))
   where
     best' : ℕ
     best' = min best (2 * r.classes * m - count r (timer_no r i))
 
 -- a wait that passes no ceiling is within the room
-pub allows_room : (r : Record) (best i : ℕ) (ms : List ℕ) (d : ℕ) → d ≤ best → All (Allows r d) (limits i ms) → d ≤ room r best i ms
+pub allows_room : (r : Record) (best i : ℕ) (ms : List ℕ) (d : ℕ) → d ≤ best → AllByRecursion (Allows r d) (limits i ms) → d ≤ room r best i ms
 allows_room r best i [] d l h = omega (arith, room_nil r best i)
 allows_room r best i (m ∷ ms) d l h =
-    let a = subst (All (Allows r d)) (limits_cons i m ms) h in
+    let a = subst (AllByRecursion (Allows r d)) (limits_cons i m ms) h in
     let b : d ≤ min best (2 * r.classes * m - count r (timer_no r i)) = omega (arith, a.0) in
     omega (arith, room_cons r best i m ms, allows_room r (min best (2 * r.classes * m - count r (timer_no r i))) (suc i) ms d b a.1)
 
-pub allows_ceiling_wait : (plan : Plan) (r : Record) (d : ℕ) → 1 ≤ length plan.ceilings → All (Allows r d) (limits 0 plan.ceilings) → d ≤ ceiling_wait plan r
+pub allows_ceiling_wait : (plan : Plan) (r : Record) (d : ℕ) → 1 ≤ length plan.ceilings → AllByRecursion (Allows r d) (limits 0 plan.ceilings) → d ≤ ceiling_wait plan r
 allows_ceiling_wait plan r d n h =
     omega (arith, ceiling_wait_is plan r, allows_room r (2 * r.classes * get_or plan.ceilings 0 0) 0 plan.ceilings d (first plan.ceilings n h) h)
   where
-    first : (ms : List ℕ) → 1 ≤ length ms → All (Allows r d) (limits 0 ms) → d ≤ 2 * r.classes * get_or ms 0 0
+    first : (ms : List ℕ) → 1 ≤ length ms → AllByRecursion (Allows r d) (limits 0 ms) → d ≤ 2 * r.classes * get_or ms 0 0
     first [] l a = absurd (omega arith)
-    first (m ∷ ms) l a = let b = subst (All (Allows r d)) (limits_cons 0 m ms) a in omega (arith, b.0)
+    first (m ∷ ms) l a = let b = subst (AllByRecursion (Allows r d)) (limits_cons 0 m ms) a in omega (arith, b.0)
 
 -- either the hold allows 0, or the hold interval is 0 alone
 pub top_cases : (plan : Plan) (i : ℕ) (r : Record) → (Within 0 (hold_span plan i r) × (top plan i r ≡ (hold_span plan i r).until - 1)) ⊎ ((inside 0 (hold_span plan i r) ≡ false) × (top plan i r ≡ 0))
@@ -99,7 +99,7 @@ top_cases plan i r = go (cases_Bool (inside 0 (hold_span plan i r)))
     go (inr e) =
         inr (e, top_is plan i r ∙ cond-false (inside 0 (hold_span plan i r)) ((hold_span plan i r).until - 1) 0 e)
 
-pub within_hold : (plan : Plan) (i : ℕ) (r : Record) (d : ℕ) → Within d (hold_span plan i r) ↔ ((d ≤ ceiling_wait plan r) × All (Allows r d) (stage_of plan i).hold)
+pub within_hold : (plan : Plan) (i : ℕ) (r : Record) (d : ℕ) → Within d (hold_span plan i r) ↔ ((d ≤ ceiling_wait plan r) × AllByRecursion (Allows r d) (stage_of plan i).hold)
 within_hold plan i r d =
     let e = hold_span_is plan i r in
     let f = within_cuts r (stage_of plan i).hold d (upto (ceiling_wait plan r)) in
@@ -190,17 +190,17 @@ allowed_waits_are_true_moments = record { exactly = exactly; moments = moments; 
     moments D v h n d =
         let w = every_wait_in_half_ticks D v h n d in (w.0, 2, record { a_moment = omega arith; its_wait = w.1 })
 
-    exactly : (D : ℕ) (v : List ℕ) (cs : List Comparison) → 1 ≤ D → 1 ≤ length v → All (NamesBelow (length v)) cs → (d : ℕ) → (inside d (cuts (record_of D v) cs (upto d)) ≡ true) ↔ ((p q : ℕ) → AtWait D v d p q → Holds D v p q cs)
+    exactly : (D : ℕ) (v : List ℕ) (cs : List Comparison) → 1 ≤ D → 1 ≤ length v → AllByRecursion (NamesBelow (length v)) cs → (d : ℕ) → (inside d (cuts (record_of D v) cs (upto d)) ≡ true) ↔ ((p q : ℕ) → AtWait D v d p q → Holds D v p q cs)
     exactly D v cs h n m d = (to, from)
       where
         to : inside d (cuts (record_of D v) cs (upto d)) ≡ true → (p q : ℕ) → AtWait D v d p q → Holds D v p q cs
         to e p q a =
-            (holds_allows D v p q h a.a_moment cs m).1 (subst (λ z. All (Allows (record_of D v) z) cs) (sym a.its_wait) ((within_cuts (record_of D v) cs d (upto d)).0 (inside_within d (cuts (record_of D v) cs (upto d)) e)).1)
+            (holds_allows D v p q h a.a_moment cs m).1 (subst (λ z. AllByRecursion (Allows (record_of D v) z) cs) (sym a.its_wait) ((within_cuts (record_of D v) cs d (upto d)).0 (inside_within d (cuts (record_of D v) cs (upto d)) e)).1)
 
         from : ((p q : ℕ) → AtWait D v d p q → Holds D v p q cs) → inside d (cuts (record_of D v) cs (upto d)) ≡ true
         from f =
             let w = moments D v h n d in
-            within_inside d (cuts (record_of D v) cs (upto d)) ((within_cuts (record_of D v) cs d (upto d)).1 ((omega arith, omega arith), subst (λ z. All (Allows (record_of D v) z) cs) w.2.its_wait ((holds_allows D v w.0 w.1 h w.2.a_moment cs m).0 (f w.0 w.1 w.2))))
+            within_inside d (cuts (record_of D v) cs (upto d)) ((within_cuts (record_of D v) cs d (upto d)).1 ((omega arith, omega arith), subst (λ z. AllByRecursion (Allows (record_of D v) z) cs) w.2.its_wait ((holds_allows D v w.0 w.1 h w.2.a_moment cs m).0 (f w.0 w.1 w.2))))
 
     by_record : (D : ℕ) (v : List ℕ) → 1 ≤ D → 1 ≤ length v → (d p q : ℕ) → 1 ≤ q → AtWait D v d p q ↔ (record_in D v p q ≡ wait d (record_of D v))
     by_record D v h n d p q k =

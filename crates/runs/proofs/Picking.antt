@@ -1,6 +1,6 @@
 -- A ticket picks one outcome.
 use Rattle.std.proofs.Common.{◌≡◌, ℕ, zero, suc, ◌-◌, ◌^◌, ◌<◌, ◌≤◌, cond, ltb, ◌⊎◌, List, [], ◌∷◌, length, take, sym, refl, ◌∙◌, subst, inl, inr, mul-le-mul_right, arith}
-use Rattle.std.specs.List.{AllByRecursion as All}
+use Rattle.std.specs.List.{AllByRecursion}
 use Rattle.std.proofs.lemmas.Bool.{cases_lt, cases_order, cond-true, cond-false, lt-ltb, le-ltb}
 use Rattle.runs.specs.Plans.{Plan, Outcome, SoundPlanOutcome, weights}
 use Rattle.runs.specs.Ticks.{ticket, Picks}
@@ -66,6 +66,6 @@ ticket_fits g all h k =
     let a : g ≤ 4294967295 = omega arith in omega (arith, mul-le-mul_right all a)
 
 -- outcomes that can all come weigh something
-pub some_weight : (plan : Plan) (os : List Outcome) → 1 ≤ length os → All (SoundPlanOutcome plan) os → 1 ≤ weights os
+pub some_weight : (plan : Plan) (os : List Outcome) → 1 ≤ length os → AllByRecursion (SoundPlanOutcome plan) os → 1 ≤ weights os
 some_weight plan [] l h = absurd (omega arith)
 some_weight plan (o ∷ os) l h = omega (arith, weights_cons o os, h.0.can_come)

@@ -1,6 +1,6 @@
 -- A tick run's event is told by a call, and a take that fits is an event.
 use Rattle.std.proofs.Common.{◌≡◌, ℕ, suc, ◌+◌, ◌^◌, ◌<◌, ◌≤◌, Bool, true, false, cond, ◌⊎◌, ◌↔◌, List, [], ◌∷◌, ◌++◌, length, get_or, Some, Ok, sym, refl, ap, ◌∙◌, subst, ap₂, inl, inr, arith}
-use Rattle.std.specs.List.{AllByRecursion as All}
+use Rattle.std.specs.List.{AllByRecursion}
 use Rattle.theory.specs.Settings.{later, steps, reach}
 use Rattle.theory.specs.Records.{Record, record_of, wait, reset}
 use Rattle.theory.specs.Regions.{Comparison}
@@ -33,7 +33,7 @@ not_true false h = refl
 -- a go that may be made is a take that fits, after the wait of its ticks
 pub go_fits : (plan : Plan) (D : ℕ) (now : Ticking) (t c g : ℕ) (coming : Draws) → Sound plan → 1 ≤ D → Sized plan now → MayGo plan D now t c g → Fits plan (run_of D now coming) c (steps D now.ticks t)
 go_fits plan D now t c g coming s d n h =
-    record { going_on = h.going_on; of_stage = h.of_stage; in_hold = l; allowed = (within_cuts r guard (steps D now.ticks t) (upto (top plan now.stage r))).1 ((omega arith, omega (arith, l)), subst (λ z. All (Allows r z) guard) (reach_of_ticks D now.ticks t) ((holds_allows D now.ticks t 1 d (omega arith) guard (named_like plan now.ticks guard n (guard_is_named plan s now.stage c))).0 h.guard_true)) }
+    record { going_on = h.going_on; of_stage = h.of_stage; in_hold = l; allowed = (within_cuts r guard (steps D now.ticks t) (upto (top plan now.stage r))).1 ((omega arith, omega (arith, l)), subst (λ z. AllByRecursion (Allows r z) guard) (reach_of_ticks D now.ticks t) ((holds_allows D now.ticks t 1 d (omega arith) guard (named_like plan now.ticks guard n (guard_is_named plan s now.stage c))).0 h.guard_true)) }
   where
     r : Record
     r = record_of D now.ticks
@@ -48,7 +48,7 @@ go_fits plan D now t c g coming s d n h =
 -- a take that fits, after the wait of some ticks, is a go that may be made
 pub fits_go : (plan : Plan) (D : ℕ) (now : Ticking) (t c g : ℕ) (coming : Draws) → Sound plan → 1 ≤ D → Sized plan now → g < 2 ^ 32 → (t ≡ 0) ⊎ (0 < steps D now.ticks t) → Fits plan (run_of D now coming) c (steps D now.ticks t) → MayGo plan D now t c g
 fits_go plan D now t c g coming s d n b z h =
-    record { going_on = h.going_on; a_draw = b; of_stage = h.of_stage; permitted = reach_permitted plan now.stage D now.ticks t 1 s d n (omega arith) (above z) (omega (arith, h.in_hold, reach_of_ticks D now.ticks t)); guard_true = (holds_allows D now.ticks t 1 d (omega arith) guard (named_like plan now.ticks guard n (guard_is_named plan s now.stage c))).1 (subst (λ k. All (Allows r k) guard) (sym (reach_of_ticks D now.ticks t)) ((within_cuts r guard (steps D now.ticks t) (upto (top plan now.stage r))).0 h.allowed).1) }
+    record { going_on = h.going_on; a_draw = b; of_stage = h.of_stage; permitted = reach_permitted plan now.stage D now.ticks t 1 s d n (omega arith) (above z) (omega (arith, h.in_hold, reach_of_ticks D now.ticks t)); guard_true = (holds_allows D now.ticks t 1 d (omega arith) guard (named_like plan now.ticks guard n (guard_is_named plan s now.stage c))).1 (subst (λ k. AllByRecursion (Allows r k) guard) (sym (reach_of_ticks D now.ticks t)) ((within_cuts r guard (steps D now.ticks t) (upto (top plan now.stage r))).0 h.allowed).1) }
   where
     r : Record
     r = record_of D now.ticks

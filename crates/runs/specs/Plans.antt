@@ -1,6 +1,6 @@
 -- A junction plan as its planner sees it: timers with their ceilings, stages with their changes, and the goal.
 use Rattle.std.specs.Prelude.{◌≡◌, ℕ, ◌+◌, ◌-◌, ◌<◌, ◌≤◌, Bool, false, List, [], ◌∷◌, length, slice_index_or}
-use Rattle.std.specs.List.{AllByRecursion as All}
+use Rattle.std.specs.List.{AllByRecursion}
 use Rattle.theory.specs.Regions.{Comparison, NamesBelow}
 
 -- one way a change may turn out: how much it weighs, the stage it leads to, and which timers it sets to zero
@@ -60,7 +60,7 @@ weights (o ∷ os) = o.weight + weights os
 
 -- every timer that the comparisons name is in the plan
 abbrev pub NamedIn : Plan → List Comparison → Type 0
-NamedIn plan cs = All (NamesBelow (length plan.ceilings)) cs
+NamedIn plan cs = AllByRecursion (NamesBelow (length plan.ceilings)) cs
 
 -- an outcome can come, leads to a stage of the plan, and says of each timer whether it is set to zero
 pub record SoundPlanOutcome (plan : Plan) (o : Outcome) : Type 0 where
@@ -72,20 +72,20 @@ pub record SoundPlanOutcome (plan : Plan) (o : Outcome) : Type 0 where
 pub record SoundPlanChange (plan : Plan) (c : Change) : Type 0 where
   pub guard_named : NamedIn plan c.guard
   pub some_outcome : 1 ≤ length c.outcomes
-  pub outcomes_sound : All (SoundPlanOutcome plan) c.outcomes
+  pub outcomes_sound : AllByRecursion (SoundPlanOutcome plan) c.outcomes
   pub weights_fit : weights c.outcomes ≤ 65535
 
 -- a stage's hold names timers of the plan, and its changes are sound
 pub record SoundPlanStage (plan : Plan) (s : Stage) : Type 0 where
   pub hold_named : NamedIn plan s.hold
-  pub changes_sound : All (SoundPlanChange plan) s.changes
+  pub changes_sound : AllByRecursion (SoundPlanChange plan) s.changes
 
 -- a plan that can be run: it has a timer and a stage, every timer may run a while, and nothing is named that is not there
 pub record Sound (plan : Plan) : Type 0 where
   pub some_timer : 1 ≤ length plan.ceilings
-  pub timers_run : All (λ m. 1 ≤ m) plan.ceilings
+  pub timers_run : AllByRecursion (λ m. 1 ≤ m) plan.ceilings
   pub some_stage : 1 ≤ length plan.stages
-  pub stages_sound : All (SoundPlanStage plan) plan.stages
+  pub stages_sound : AllByRecursion (SoundPlanStage plan) plan.stages
   pub goal_named : NamedIn plan plan.goal
 
 -- the plan that stands in for one that cannot be run: one timer, one stage, and nothing can happen

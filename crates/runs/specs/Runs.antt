@@ -1,6 +1,6 @@
 -- A run over region records: what may happen next, and what each call answers and leaves.
 use Rattle.std.specs.Prelude.{◌≡◌, ℕ, suc, ◌+◌, ◌-◌, ◌*◌, ◌<◌, ◌≤◌, min, max, Bool, true, false, cond, ◌&&◌, List, [], ◌∷◌, length, get_or, replicate, Some, None, Ok, Err, Option, Result, nat_le, nat_lt, slice_index, slice_index_or}
-use Rattle.std.specs.List.{AllByRecursion as All}
+use Rattle.std.specs.List.{AllByRecursion}
 use Rattle.rows.specs.declared.refusal.Refusal.{Refusal}
 use Rattle.rows.specs.declared.refusal.Refusal.TheVariants.{RunNotOpen, ChangeNotOfStage, WaitOutsideHold, GuardForbidsWait, NoDrawToCome}
 use Rattle.theory.specs.Records.{Record, Valid, fresh, timer_no, count, wait, reset}
@@ -202,7 +202,7 @@ Scheduler = ℕ → Record → List Offer → ℕ × ℕ
 -- a scheduler keeps in range: of offers that each have a wait, it chooses one, and a wait within it
 abbrev pub InRange : Scheduler → Type 0
 InRange f =
-    (i : ℕ) (r : Record) (os : List Offer) → 1 ≤ length os → All (λ o. o.lowest ≤ o.highest) os → ((f i r os).0 < length os) × ((get_or os (f i r os).0 blank_offer).lowest ≤ (f i r os).1) × ((f i r os).1 ≤ (get_or os (f i r os).0 blank_offer).highest)
+    (i : ℕ) (r : Record) (os : List Offer) → 1 ≤ length os → AllByRecursion (λ o. o.lowest ≤ o.highest) os → ((f i r os).0 < length os) × ((get_or os (f i r os).0 blank_offer).lowest ≤ (f i r os).1) × ((f i r os).1 ≤ (get_or os (f i r os).0 blank_offer).highest)
 
 -- the run's offers
 abbrev pub offers_of : Plan → Run → List Offer

@@ -1,6 +1,6 @@
 -- What it means that the calls of a run tell a tick run, and what is promised of both.
 use Rattle.std.specs.Prelude.{◌≡◌, ℕ, ◌+◌, ◌^◌, ◌<◌, ◌≤◌, Bool, true, false, ◌⊎◌, ◌↔◌, List, [], ◌∷◌, length, Some, None, Ok, Err, Result, ◌≢◌, slice_index_or}
-use Rattle.std.specs.List.{AllByRecursion as All}
+use Rattle.std.specs.List.{AllByRecursion}
 use Rattle.rows.specs.declared.refusal.Refusal.{Refusal}
 use Rattle.rows.specs.declared.refusal.Refusal.TheVariants.{RunNotOpen, NoDrawToCome}
 use Rattle.theory.specs.Settings.{later, reach}
@@ -207,7 +207,7 @@ pub record AtWait (D : ℕ) (v : List ℕ) (d p q : ℕ) : Type 0 where
 
 -- a list of comparisons allows a wait exactly if each is true at every moment of that wait; and each wait has a moment
 pub record AllowedWaitsAreTrueMoments : Type 0 where
-  pub exactly : (D : ℕ) (v : List ℕ) (cs : List Comparison) → 1 ≤ D → 1 ≤ length v → All (NamesBelow (length v)) cs → (d : ℕ) → (inside d (cuts (record_of D v) cs (upto d)) ≡ true) ↔ ((p q : ℕ) → AtWait D v d p q → Holds D v p q cs)
+  pub exactly : (D : ℕ) (v : List ℕ) (cs : List Comparison) → 1 ≤ D → 1 ≤ length v → AllByRecursion (NamesBelow (length v)) cs → (d : ℕ) → (inside d (cuts (record_of D v) cs (upto d)) ≡ true) ↔ ((p q : ℕ) → AtWait D v d p q → Holds D v p q cs)
   pub moments : (D : ℕ) (v : List ℕ) → 1 ≤ D → 1 ≤ length v → (d : ℕ) → (p : ℕ) × (q : ℕ) × AtWait D v d p q
   -- the moments of a wait are those whose record is the record after the wait
   pub by_record : (D : ℕ) (v : List ℕ) → 1 ≤ D → 1 ≤ length v → (d p q : ℕ) → 1 ≤ q → AtWait D v d p q ↔ (record_in D v p q ≡ wait d (record_of D v))
@@ -232,8 +232,8 @@ pub record FirstAndLast (P : ℕ → Type 0) (first last : ℕ) : Type 0 where
 -- a change is offered exactly if it is possible, and an offer's waits are those of the permitted moments that make its guard true
 pub record OffersAreThePossibleChanges : Type 0 where
   pub offered : (plan : Plan) (i D : ℕ) (v : List ℕ) → Sound plan → 1 ≤ D → length v ≡ length plan.ceilings → (c : ℕ) → Offered (offers_at plan i (record_of D v)) c ↔ Possible plan i D v c
-  pub waits : (plan : Plan) (i D : ℕ) (v : List ℕ) → Sound plan → 1 ≤ D → length v ≡ length plan.ceilings → All (λ o. (d : ℕ) → ((o.lowest ≤ d) × (d ≤ o.highest)) ↔ GuardTrueAt plan i D v o.change d) (offers_at plan i (record_of D v))
-  pub ends : (plan : Plan) (i D : ℕ) (v : List ℕ) → Sound plan → 1 ≤ D → length v ≡ length plan.ceilings → All (λ o. FirstAndLast (GuardTrueAt plan i D v o.change) o.lowest o.highest) (offers_at plan i (record_of D v))
+  pub waits : (plan : Plan) (i D : ℕ) (v : List ℕ) → Sound plan → 1 ≤ D → length v ≡ length plan.ceilings → AllByRecursion (λ o. (d : ℕ) → ((o.lowest ≤ d) × (d ≤ o.highest)) ↔ GuardTrueAt plan i D v o.change d) (offers_at plan i (record_of D v))
+  pub ends : (plan : Plan) (i D : ℕ) (v : List ℕ) → Sound plan → 1 ≤ D → length v ≡ length plan.ceilings → AllByRecursion (λ o. FirstAndLast (GuardTrueAt plan i D v o.change) o.lowest o.highest) (offers_at plan i (record_of D v))
 
 -- a run on a sound plan opens within its bounds, and every call keeps it there
 pub record EveryCallKeepsARunInBounds : Type 0 where

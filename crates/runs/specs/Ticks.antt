@@ -1,6 +1,6 @@
 -- A run as stopwatches tell it: every timer is a whole number of ticks, and a second has D ticks.
 use Rattle.std.specs.Prelude.{◌≡◌, ℕ, suc, ◌*◌, ◌/◌, ◌^◌, ◌<◌, ◌≤◌, true, false, ◌⊎◌, List, [], ◌∷◌, ◌++◌, length, take, replicate, slice_index_or}
-use Rattle.std.specs.List.{AllByRecursion as All}
+use Rattle.std.specs.List.{AllByRecursion}
 use Rattle.theory.specs.Settings.{later, finer, cleared}
 use Rattle.theory.specs.Regions.{Comparison, timer_against, AtMost, TrueOf}
 use Rattle.runs.specs.Plans.{Plan, Outcome, blank_outcome, stage_of, OfStage, change_of, weights}
@@ -15,7 +15,7 @@ pub record Ticking : Type 0 where
 
 -- every comparison is true p parts of a tick from now, where a tick is cut into q
 abbrev pub Holds : ℕ → List ℕ → ℕ → ℕ → List Comparison → Type 0
-Holds D v p q cs = All (TrueOf (q * D) (later p (finer q v))) cs
+Holds D v p q cs = AllByRecursion (TrueOf (q * D) (later p (finer q v))) cs
 
 -- the ceilings as comparisons: each timer, from timer i on, is at most its ceiling
 unfoldable pub limits : ℕ → List ℕ → List Comparison

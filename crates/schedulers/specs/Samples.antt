@@ -1,10 +1,10 @@
 -- A hash of 32 bits chooses a place in every list and a wait in every offer.
 use Rattle.std.specs.Prelude.{◌≡◌, ℕ, ◌+◌, ◌-◌, ◌*◌, ◌^◌, ◌<◌, ◌≤◌, List, [], ◌∷◌, ◌++◌, length, get_or, take, Some, None, fold, bit_xor, slice_index_or, refl}
 use Rattle.std.proofs.Common.{sym, ap, ◌∙◌, mod-lt, mul-le-mul_right, mul-zero, suc-mul, arith}
-use Rattle.std.proofs.ByRecursion.{All-get_or}
+use Rattle.std.proofs.ByRecursion.{AllByRecursion-get_or}
 use Rattle.std.proofs.lemmas.List.{get_or-map, get_or-take, flat_map_more, length-map, length-take, take_more}
 use Rattle.std.proofs.lemmas.Bool.Decides.{nat_tests}
-use Rattle.std.specs.List.{flat_map, AllByRecursion as All}
+use Rattle.std.specs.List.{flat_map, AllByRecursion}
 use Rattle.region.specs.declared.Region.{Region}
 use Rattle.region.specs.declared.value.TimerValue.{TimerValue}
 use Rattle.region.specs.Reads.{row_no}
@@ -54,11 +54,11 @@ hashed_none h =
     wait_at : (k : ℕ) → wait_in (offer_at [] k) h ≡ 0
     wait_at k = omega (arith, scaled_below (following h) 1 (following_small h) (omega arith))
 
-pub hashed_within : (h : ℕ) (os : List Offer) → h < 2 ^ 32 → 1 ≤ length os → All (λ o. o.lowest ≤ o.highest) os → ((hashed h os).0 < length os) × ((offer_at os (hashed h os).0).lowest ≤ (hashed h os).1) × ((hashed h os).1 ≤ (offer_at os (hashed h os).0).highest)
+pub hashed_within : (h : ℕ) (os : List Offer) → h < 2 ^ 32 → 1 ≤ length os → AllByRecursion (λ o. o.lowest ≤ o.highest) os → ((hashed h os).0 < length os) × ((offer_at os (hashed h os).0).lowest ≤ (hashed h os).1) × ((hashed h os).1 ≤ (offer_at os (hashed h os).0).highest)
 hashed_within h os small some ordered =
     let place = scaled_below h (length os) small some in
     let o : Offer = offer_at os (scaled h (length os)) in
-    let order = All-get_or (λ (x : Offer). x.lowest ≤ x.highest) os (scaled h (length os)) blank_offer place ordered in
+    let order = AllByRecursion-get_or (λ (x : Offer). x.lowest ≤ x.highest) os (scaled h (length os)) blank_offer place ordered in
     let part = scaled_below (following h) (o.highest - o.lowest + 1) (following_small h) (omega arith) in
     (place, omega arith, omega arith)
 

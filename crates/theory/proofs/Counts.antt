@@ -3,15 +3,15 @@ use Rattle.std.proofs.Common.{◌≡◌, ℕ, zero, suc, ◌+◌, ◌*◌, ◌/�
 use mathlib.Core.List.{map-map}
 use native.Mathlib.Nat.{div-add-mod}
 use lib.ListN.{length-map}
-use Rattle.std.specs.List.{AllByRecursion as All}
+use Rattle.std.specs.List.{AllByRecursion}
 use Rattle.std.proofs.lemmas.List.{get_or-map}
-use Rattle.std.proofs.ByRecursion.{All-weaker}
+use Rattle.std.proofs.ByRecursion.{AllByRecursion-weaker}
 use Rattle.std.proofs.lemmas.Bool.Decides.{nat_tests}
 use Rattle.theory.specs.Records.{Timer, Record, edge, count, timer_at, timer_no, fresh, wait, single_steps}
 use Rattle.theory.proofs.Held.{map_every}
 use Rattle.theory.proofs.Waits.{same_record, timer_from_count, wait_whole, wait_classes, wait_timers}
 
-pub map_itself : {A : Type 0} (f : A → A) (xs : List A) → All (λ x. f x ≡ x) xs → map f xs ≡ xs
+pub map_itself : {A : Type 0} (f : A → A) (xs : List A) → AllByRecursion (λ x. f x ≡ x) xs → map f xs ≡ xs
 map_itself f [] h = refl
 map_itself f (x ∷ xs) h = ap₂ ◌∷◌ h.0 (map_itself f xs h.1)
 
@@ -90,9 +90,9 @@ pub timer_of_count : (r : Record) (t : Timer) (u : ℕ) → t.rank < r.classes �
 timer_of_count r t u h e = timer_from_count r.classes t.seconds t.rank (edge r) u h (edge_bit r) e
 
 -- no wait alters nothing
-pub wait_none : (r : Record) → All (λ t. t.rank < r.classes) r.timers → wait 0 r ≡ r
+pub wait_none : (r : Record) → AllByRecursion (λ t. t.rank < r.classes) r.timers → wait 0 r ≡ r
 wait_none r h =
-    same_record (wait 0 r) r (wait_whole 0 r ∙ go r.whole) (wait_classes 0 r) (wait_timers 0 r ∙ map_itself (λ t. timer_at r.classes (count r t + 0)) r.timers (All-weaker (λ t. t.rank < r.classes) (λ t. timer_at r.classes (count r t + 0) ≡ t) (λ t l. timer_of_count r t (count r t + 0) l (omega arith)) r.timers h))
+    same_record (wait 0 r) r (wait_whole 0 r ∙ go r.whole) (wait_classes 0 r) (wait_timers 0 r ∙ map_itself (λ t. timer_at r.classes (count r t + 0)) r.timers (AllByRecursion-weaker (λ t. t.rank < r.classes) (λ t. timer_at r.classes (count r t + 0) ≡ t) (λ t l. timer_of_count r t (count r t + 0) l (omega arith)) r.timers h))
   where
     go : (b : Bool) → eqb ((cond b 0 1 + 0) % 2) 0 ≡ b
     go true = refl
@@ -107,7 +107,7 @@ unfolding single_steps
 single_steps_suc d r = refl
 
 -- a wait is made of waits of one step
-pub wait_by_single_steps : (d : ℕ) (r : Record) → All (λ t. t.rank < r.classes) r.timers → wait d r ≡ single_steps d r
+pub wait_by_single_steps : (d : ℕ) (r : Record) → AllByRecursion (λ t. t.rank < r.classes) r.timers → wait d r ≡ single_steps d r
 wait_by_single_steps zero r h = wait_none r h ∙ sym (single_steps_zero r)
 wait_by_single_steps (suc d) r h =
     ap (λ n. wait n r) e ∙ (sym (wait_wait d 1 r) ∙ (ap (wait 1) (wait_by_single_steps d r h) ∙ sym (single_steps_suc d r)))

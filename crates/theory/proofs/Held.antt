@@ -2,12 +2,12 @@
 use Rattle.std.proofs.Common.{◌≡◌, ℕ, zero, suc, ◌+◌, ◌-◌, ◌*◌, ◌%◌, ◌<◌, ◌≤◌, cond, ◌⊎◌, ◌↔◌, List, [], ◌∷◌, map, length, get_or, sym, refl, ap, ◌∙◌, ap₂, inl, inr, mod-eq_of_lt, arith}
 use mathlib.Core.List.{map-map}
 use native.Mathlib.Nat.{mod-add-mod, add-mod_right, mod_self}
-use Rattle.std.specs.List.{AllByRecursion as All}
-use Rattle.std.proofs.ByRecursion.{All-from_get_or}
+use Rattle.std.specs.List.{AllByRecursion}
+use Rattle.std.proofs.ByRecursion.{AllByRecursion-from_get_or}
 use Rattle.std.proofs.lemmas.Bool.{cases_eq, eq-eqb, ne_eqb}
 use Rattle.theory.specs.Settings.{held, later, finer}
 
-pub map_same : {A B : Type 0} (f g : A → B) (xs : List A) → All (λ x. f x ≡ g x) xs → map f xs ≡ map g xs
+pub map_same : {A B : Type 0} (f g : A → B) (xs : List A) → AllByRecursion (λ x. f x ≡ g x) xs → map f xs ≡ map g xs
 map_same f g [] h = refl
 map_same f g (x ∷ xs) h = ap₂ ◌∷◌ h.0 (map_same f g xs h.1)
 
@@ -15,11 +15,11 @@ pub map_every : {A B : Type 0} (f g : A → B) (xs : List A) → ((x : A) → f 
 map_every f g [] h = refl
 map_every f g (x ∷ xs) h = ap₂ ◌∷◌ (h x) (map_every f g xs h)
 
-pub all_unmap : {A B : Type 0} (P : B → Type 0) (f : A → B) (xs : List A) → All P (map f xs) → All (λ x. P (f x)) xs
+pub all_unmap : {A B : Type 0} (P : B → Type 0) (f : A → B) (xs : List A) → AllByRecursion P (map f xs) → AllByRecursion (λ x. P (f x)) xs
 all_unmap P f [] h = tt
 all_unmap P f (x ∷ xs) h = (h.0, all_unmap P f xs h.1)
 
-pub all_every : {A : Type 0} (P : A → Type 0) (xs : List A) → ((x : A) → P x) → All P xs
+pub all_every : {A : Type 0} (P : A → Type 0) (xs : List A) → ((x : A) → P x) → AllByRecursion P xs
 all_every P [] h = tt
 all_every P (x ∷ xs) h = (h x, all_every P xs h)
 
@@ -52,7 +52,7 @@ held_map f F y D x h (c ∷ v) = go (cases_eq (c % D) x) (held_map f F y D x h v
     go (inr e) r =
         held_there F (f c) (map f v) y (λ k. e ((h c).0 k)) ∙ (r ∙ sym (held_there D c v x e))
 
-pub held_none : (D : ℕ) (v : List ℕ) (x : ℕ) → All (λ c. c % D ≡ x → ⊥) v → held D v x ≡ 0
+pub held_none : (D : ℕ) (v : List ℕ) (x : ℕ) → AllByRecursion (λ c. c % D ≡ x → ⊥) v → held D v x ≡ 0
 held_none D [] x h = held_nil D x
 held_none D (c ∷ v) x h = held_there D c v x h.0 ∙ held_none D v x h.1
 
@@ -78,8 +78,8 @@ held_by_some D (c ∷ v) x h = go (cases_eq (c % D) x) (held_by_some D v x)
     go (inl e) r = (0, omega arith, e)
     go (inr e) r = next (r (sym (held_there D c v x e) ∙ h))
 
-pub all_held : (D : ℕ) (v : List ℕ) → All (λ c. held D v (c % D) ≡ 1) v
-all_held D v = All-from_get_or (λ c. held D v (c % D) ≡ 1) v 0 (held_at D v)
+pub all_held : (D : ℕ) (v : List ℕ) → AllByRecursion (λ c. held D v (c % D) ≡ 1) v
+all_held D v = AllByRecursion-from_get_or (λ c. held D v (c % D) ≡ 1) v 0 (held_at D v)
 
 pub later_later : (s t : ℕ) (v : List ℕ) → later s (later t v) ≡ later (t + s) v
 later_later s t v =

@@ -4,8 +4,8 @@ use mathlib.Core.Path.{fun_ext}
 use mathlib.Core.List.{map-map}
 use native.Mathlib.Nat.{div-add-mod, add-mul-mod_self_right}
 use lib.ListN.{length-map}
-use Rattle.std.specs.List.{AllByRecursion as All}
-use Rattle.std.proofs.ByRecursion.{All-map, All-weaker}
+use Rattle.std.specs.List.{AllByRecursion}
+use Rattle.std.proofs.ByRecursion.{AllByRecursion-map, AllByRecursion-weaker}
 use Rattle.std.proofs.lemmas.Bool.{cases_lt, cases_eq}
 use Rattle.theory.specs.Settings.{total, held, later, finer, steps, reach}
 use Rattle.theory.specs.Records.{record_of, record_in, wait}
@@ -101,7 +101,7 @@ half_tick_crosses_one D v s d = go (cases_eq (s % 2) 0)
 
     none : (x : ℕ) → ((c : ℕ) → (2 * c + s) % (2 * D) ≡ x → ⊥) → held (2 * D) (later s (finer 2 v)) x ≡ 0
     none x h =
-        held_none (2 * D) (later s (finer 2 v)) x (All-map (λ c. c % (2 * D) ≡ x → ⊥) (λ c. c + s) (finer 2 v) (All-map (λ c. (c + s) % (2 * D) ≡ x → ⊥) (λ c. 2 * c) v (all_every (λ c. (2 * c + s) % (2 * D) ≡ x → ⊥) v h)))
+        held_none (2 * D) (later s (finer 2 v)) x (AllByRecursion-map (λ c. c % (2 * D) ≡ x → ⊥) (λ c. c + s) (finer 2 v) (AllByRecursion-map (λ c. (c + s) % (2 * D) ≡ x → ⊥) (λ c. 2 * c) v (all_every (λ c. (2 * c + s) % (2 * D) ≡ x → ⊥) v h)))
 
     go : (s % 2 ≡ 0) ⊎ (s % 2 ≡ 0 → ⊥) → crossed (2 * D) (finer 2 v) s ≤ 1
     go (inl z) =
@@ -149,7 +149,7 @@ pub multiple_splits : (g D : ℕ) → 1 ≤ g → D % (2 * g) ≡ 0 → D ≡ g 
 multiple_splits g D h e = omega (arith, div-add-mod D (2 * g))
 
 -- where the fineness and all ticks are multiples of 2 * g, g ticks are half a tick of a coarser setting
-pub coarser : (g D : ℕ) (v : List ℕ) → 1 ≤ g → 1 ≤ D → D % (2 * g) ≡ 0 → All (λ c. c % (2 * g) ≡ 0) v → (p : ℕ) → steps D v (g * p) ≡ reach (D / (2 * g)) (map (λ c. c / (2 * g)) v) p 2
+pub coarser : (g D : ℕ) (v : List ℕ) → 1 ≤ g → 1 ≤ D → D % (2 * g) ≡ 0 → AllByRecursion (λ c. c % (2 * g) ≡ 0) v → (p : ℕ) → steps D v (g * p) ≡ reach (D / (2 * g)) (map (λ c. c / (2 * g)) v) p 2
 coarser g D v h d e m p =
     ap₂ (λ F w. steps F w (g * p)) (multiple_splits g D h e) (sym ticks) ∙ steps_finer g (2 * (D / (2 * g))) (finer 2 (map (λ c. c / (2 * g)) v)) p h (omega (arith, multiple_splits g D h e, low (D / (2 * g))))
   where
@@ -162,7 +162,7 @@ coarser g D v h d e m p =
 
     ticks : finer g (finer 2 (map (λ c. c / (2 * g)) v)) ≡ v
     ticks =
-        ap (finer g) (map-map (λ c. 2 * c) (λ c. c / (2 * g)) v) ∙ (map-map (λ c. g * c) (λ c. 2 * (c / (2 * g))) v ∙ map_itself (λ c. g * (2 * (c / (2 * g)))) v (All-weaker (λ c. c % (2 * g) ≡ 0) (λ c. g * (2 * (c / (2 * g))) ≡ c) each v m))
+        ap (finer g) (map-map (λ c. 2 * c) (λ c. c / (2 * g)) v) ∙ (map-map (λ c. g * c) (λ c. 2 * (c / (2 * g))) v ∙ map_itself (λ c. g * (2 * (c / (2 * g)))) v (AllByRecursion-weaker (λ c. c % (2 * g) ≡ 0) (λ c. g * (2 * (c / (2 * g))) ≡ c) each v m))
 
 pub coarser_fineness : (g D : ℕ) → 1 ≤ g → 1 ≤ D → D % (2 * g) ≡ 0 → 1 ≤ D / (2 * g)
 coarser_fineness g D h d e = go (D / (2 * g)) (multiple_splits g D h e)
@@ -172,7 +172,7 @@ coarser_fineness g D h d e = go (D / (2 * g)) (multiple_splits g D h e)
     go (suc n) z = omega arith
 
 -- where the fineness and all ticks are multiples of 2 * g, each wait is made in a multiple of g ticks
-pub waits_in_multiples : (g D : ℕ) (v : List ℕ) → 1 ≤ g → 1 ≤ D → 1 ≤ length v → D % (2 * g) ≡ 0 → All (λ c. c % (2 * g) ≡ 0) v → (d : ℕ) → (p : ℕ) × (steps D v (g * p) ≡ d)
+pub waits_in_multiples : (g D : ℕ) (v : List ℕ) → 1 ≤ g → 1 ≤ D → 1 ≤ length v → D % (2 * g) ≡ 0 → AllByRecursion (λ c. c % (2 * g) ≡ 0) v → (d : ℕ) → (p : ℕ) × (steps D v (g * p) ≡ d)
 waits_in_multiples g D v h d l e m n = (w.0, coarser g D v h d e m w.0 ∙ w.1)
   where
     w : (p : ℕ) × (reach (D / (2 * g)) (map (λ c. c / (2 * g)) v) p 2 ≡ n)
@@ -180,7 +180,7 @@ waits_in_multiples g D v h d l e m n = (w.0, coarser g D v h d e m w.0 ∙ w.1)
         every_wait_in_half_ticks (D / (2 * g)) (map (λ c. c / (2 * g)) v) (coarser_fineness g D h d e) (omega (arith, length-map v (λ c. c / (2 * g)))) n
 
 -- and where t ticks cross at least d steps, that multiple lies less than g ticks past t
-pub waits_in_multiples_within : (g D : ℕ) (v : List ℕ) → 1 ≤ g → 1 ≤ D → D % (2 * g) ≡ 0 → All (λ c. c % (2 * g) ≡ 0) v → (t d : ℕ) → d ≤ steps D v t → (p : ℕ) × (g * p < t + g) × (steps D v (g * p) ≡ d)
+pub waits_in_multiples_within : (g D : ℕ) (v : List ℕ) → 1 ≤ g → 1 ≤ D → D % (2 * g) ≡ 0 → AllByRecursion (λ c. c % (2 * g) ≡ 0) v → (t d : ℕ) → d ≤ steps D v t → (p : ℕ) × (g * p < t + g) × (steps D v (g * p) ≡ d)
 waits_in_multiples_within g D v h d e m t n l = (w.0, omega (arith, mul-le-mul_left g w.1, past.1), coarser g D v h d e m w.0 ∙ (steps_total (2 * (D / (2 * g))) (finer 2 (map (λ c. c / (2 * g)) v)) w.0 ∙ w.2))
   where
     past : (t ≤ g * ((t + (g - 1)) / g)) × (g * ((t + (g - 1)) / g) < t + g)

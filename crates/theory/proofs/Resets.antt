@@ -1,8 +1,8 @@
 -- To set timers to zero is to reset them in the record.
 use Rattle.std.proofs.Common.{◌≡◌, ℕ, zero, suc, ◌+◌, ◌*◌, ◌%◌, ◌<◌, ◌≤◌, Bool, true, false, cond, ◌&&◌, eqb, ◌⊎◌, List, [], ◌∷◌, map, length, sym, refl, ap, ◌∙◌, ap₂, inl, inr, arith}
 use native.Mathlib.Nat.{zero-mod, zero-div}
-use Rattle.std.specs.List.{AllByRecursion as All}
-use Rattle.std.proofs.ByRecursion.{All-weaker}
+use Rattle.std.specs.List.{AllByRecursion}
+use Rattle.std.proofs.ByRecursion.{AllByRecursion-weaker}
 use Rattle.std.proofs.lemmas.Bool.{cases_eq, cases_order, cases_Bool, eq-eqb, ne_eqb, and_right, and_left, cond-true, cond-false}
 use Rattle.theory.specs.Settings.{total, held, marked, unmarked, any_marked, cleared}
 use Rattle.theory.specs.Records.{Timer, Record, record_of, timer_of, fresh, ranked, at_zero, live, reranked, reset}
@@ -11,7 +11,7 @@ use Rattle.theory.proofs.Held.{held_nil, held_here, held_there, held_bit, held_n
 use Rattle.theory.proofs.Waits.{same_record, same_timer}
 
 -- to map a list that is set at the marked places is to set the mapped list
-pub map_marked : {A B C E : Type 0} (g : B → E) (z : B) (f : A → B) (z' : E) (f' : C → E) (k : A → C) → g z ≡ z' → (marks : List Bool) (xs : List A) → All (λ x. g (f x) ≡ f' (k x)) xs → map g (marked z f marks xs) ≡ marked z' f' marks (map k xs)
+pub map_marked : {A B C E : Type 0} (g : B → E) (z : B) (f : A → B) (z' : E) (f' : C → E) (k : A → C) → g z ≡ z' → (marks : List Bool) (xs : List A) → AllByRecursion (λ x. g (f x) ≡ f' (k x)) xs → map g (marked z f marks xs) ≡ marked z' f' marks (map k xs)
 unfolding marked
 map_marked g z f z' f' k e [] [] h = refl
 map_marked g z f z' f' k e [] (x ∷ xs) h = ap₂ ◌∷◌ h.0 (map_marked g z f z' f' k e [] xs h.1)
@@ -42,7 +42,7 @@ unmarked_map f (m ∷ marks) [] = refl
 unmarked_map f (true ∷ marks) (x ∷ xs) = unmarked_map f marks xs
 unmarked_map f (false ∷ marks) (x ∷ xs) = ap (λ ys. f x ∷ ys) (unmarked_map f marks xs)
 
-pub all_unmarked : {A : Type 0} (P : A → Type 0) (marks : List Bool) (xs : List A) → All P xs → All P (unmarked marks xs)
+pub all_unmarked : {A : Type 0} (P : A → Type 0) (marks : List Bool) (xs : List A) → AllByRecursion P xs → AllByRecursion P (unmarked marks xs)
 unfolding unmarked
 all_unmarked P [] xs h = h
 all_unmarked P (m ∷ marks) [] h = tt
@@ -98,7 +98,7 @@ rank_injective f x y h k e = go (cases_order x y)
     go (inr (inr g)) = absurd (omega (arith, total_lt f y x g k))
 
 -- some timer has the rank of a held remainder exactly if some timer has the remainder
-pub ranked_is_held : (D : ℕ) (v u : List ℕ) (x : ℕ) → held D v x ≡ 1 → All (λ c. held D v (c % D) ≡ 1) u → ranked (map (timer_of D v) u) (total (held D v) x) ≡ held D u x
+pub ranked_is_held : (D : ℕ) (v u : List ℕ) (x : ℕ) → held D v x ≡ 1 → AllByRecursion (λ c. held D v (c % D) ≡ 1) u → ranked (map (timer_of D v) u) (total (held D v) x) ≡ held D u x
 ranked_is_held D v [] x h a = ranked_nil (total (held D v) x) ∙ sym (held_nil D x)
 ranked_is_held D v (c ∷ u) x h a = go (cases_eq (c % D) x) (ranked_is_held D v u x h a.1)
   where
@@ -130,7 +130,7 @@ is_at_zero D v h =
 pub held_is_live : (D : ℕ) (v : List ℕ) (marks : List Bool) (x : ℕ) → 0 < x → held D (cleared marks v) x ≡ held D v x * live marks (record_of D v) (total (held D v) x)
 held_is_live D v marks x h = held_cleared D marks v x h ∙ go (cases_eq (held D v x) 1)
   where
-    kept : All (λ c. held D v (c % D) ≡ 1) (unmarked marks v)
+    kept : AllByRecursion (λ c. held D v (c % D) ≡ 1) (unmarked marks v)
     kept = all_unmarked (λ c. held D v (c % D) ≡ 1) marks v (all_held D v)
 
     live_here : held D v x ≡ 1 → live marks (record_of D v) (total (held D v) x) ≡ held D (unmarked marks v) x
@@ -140,7 +140,7 @@ held_is_live D v marks x h = held_cleared D marks v x h ∙ go (cases_eq (held D
     go : (held D v x ≡ 1) ⊎ (held D v x ≡ 1 → ⊥) → held D (unmarked marks v) x ≡ held D v x * live marks (record_of D v) (total (held D v) x)
     go (inl e) = omega (arith, ap (λ n. n * live marks (record_of D v) (total (held D v) x)) e, live_here e)
     go (inr e) =
-        omega (arith, ap (λ n. n * live marks (record_of D v) (total (held D v) x)) none, held_none D (unmarked marks v) x (All-weaker (λ c. held D v (c % D) ≡ 1) (λ c. c % D ≡ x → ⊥) (λ c k s. e (ap (held D v) (sym s) ∙ k)) (unmarked marks v) kept))
+        omega (arith, ap (λ n. n * live marks (record_of D v) (total (held D v) x)) none, held_none D (unmarked marks v) x (AllByRecursion-weaker (λ c. held D v (c % D) ≡ 1) (λ c. c % D ≡ x → ⊥) (λ c k s. e (ap (held D v) (sym s) ∙ k)) (unmarked marks v) kept))
       where
         none : held D v x ≡ 0
         none = omega (arith, held_bit D v x)
@@ -215,5 +215,5 @@ record_of_cleared D v marks d l = go (cases_Bool (any_marked marks))
 
     go : (any_marked marks ≡ true) ⊎ (any_marked marks ≡ false) → record_of D (cleared marks v) ≡ reset marks (record_of D v)
     go (inl h) =
-        same_record (record_of D (cleared marks v)) (record { whole = true; classes = 1 + total (live marks (record_of D v)) (total (held D v) D); timers = marked fresh (reranked marks (record_of D v)) marks (map (timer_of D v) v) }) (eq-eqb (held D (cleared marks v) 0) 1 (held_cleared_zero D marks v l h)) (classes_are D d h) (map_marked (timer_of D (cleared marks v)) 0 (λ c. c) fresh (reranked marks (record_of D v)) (timer_of D v) (timer_fresh D (cleared marks v)) marks v (All-weaker (λ c. held D v (c % D) ≡ 1) (λ c. timer_of D (cleared marks v) c ≡ reranked marks (record_of D v) (timer_of D v c)) (λ c k. timer_cleared D v marks c l h k) v (all_held D v))) ∙ sym (reset_some marks (record_of D v) h)
+        same_record (record_of D (cleared marks v)) (record { whole = true; classes = 1 + total (live marks (record_of D v)) (total (held D v) D); timers = marked fresh (reranked marks (record_of D v)) marks (map (timer_of D v) v) }) (eq-eqb (held D (cleared marks v) 0) 1 (held_cleared_zero D marks v l h)) (classes_are D d h) (map_marked (timer_of D (cleared marks v)) 0 (λ c. c) fresh (reranked marks (record_of D v)) (timer_of D v) (timer_fresh D (cleared marks v)) marks v (AllByRecursion-weaker (λ c. held D v (c % D) ≡ 1) (λ c. timer_of D (cleared marks v) c ≡ reranked marks (record_of D v) (timer_of D v c)) (λ c k. timer_cleared D v marks c l h k) v (all_held D v))) ∙ sym (reset_some marks (record_of D v) h)
     go (inr h) = ap (record_of D) (cleared_none marks v h) ∙ sym (reset_none marks (record_of D v) h)
