@@ -1,7 +1,7 @@
 -- Every row of a batch counts as many runs as each identifier has.
 use Rattle.std.proofs.Common.{◌≡◌, ℕ, List, [], ◌∷◌, fold, arith}
 use Rattle.std.specs.List.{AllByRecursion}
-use Rattle.std.proofs.ByRecursion.{AllByRecursion-push}
+use Rattle.std.proofs.ByRecursion.{All-push}
 use Rattle.runs.specs.Plans.{Plan}
 use Rattle.runs.specs.Runs.{Draws}
 use Rattle.batch.specs.Batches.{Book, Made, Progress, first_runs, none_yet, one_row}
@@ -16,7 +16,7 @@ rows_sum plan book limits m (id ∷ ids) h =
     let start : Progress = none_yet id m.left m.coming in
     let p : Progress = first_runs plan book limits.steps limits.runs start in
     let counted : runs_in p.row ≡ limits.runs = omega (arith, all_counted plan book limits.steps limits.runs start) in
-    rows_sum plan book limits (one_row plan book limits m id) ids (AllByRecursion-push (λ row. runs_in row ≡ limits.runs) m.rows p.row h counted)
+    rows_sum plan book limits (one_row plan book limits m id) ids (All-push (λ row. runs_in row ≡ limits.runs) m.rows p.row h counted)
 
 -- and so all rows of a batch
 pub the_four_counts_sum : (plan : Plan) (book : Book) (draws : Draws) (limits : Limits) (ids : List ℕ) → TheFourCountsSumToTheRuns plan book draws limits ids

@@ -1,6 +1,6 @@
 -- A plan passes every rule exactly if it is sound.
 use Rattle.std.proofs.Common.{◌≡◌, ℕ, zero, suc, ◌+◌, ◌<◌, ◌≤◌, Bool, true, false, cond, not, ◌⊎◌, List, [], ◌∷◌, get_or, is_some, Some, None, Decides, Option, sym, refl, ap, ◌∙◌, subst, inl, inr, arith}
-use Rattle.std.proofs.ByRecursion.{AllByRecursion-get_or, AllByRecursion-from_get_or}
+use Rattle.std.proofs.ByRecursion.{All-get_or, All-from_get_or}
 use Rattle.std.proofs.lemmas.List.{length-take-le}
 use Rattle.std.proofs.lemmas.Bool.{cases_order}
 use Rattle.std.proofs.lemmas.Bool.Decides.{nat_tests, Decides-at}
@@ -183,12 +183,12 @@ sound_from_rows p enough bounded none =
     record {
       enough = enough;
       bounded = bounded;
-      timers = AllByRecursion-from_get_or SoundTimer p.timers no_timer (λ k l. timer_sound (get_or p.timers k no_timer) (rules Timers k l));
-      comparisons = AllByRecursion-from_get_or (SoundComparison p) p.comparisons no_comparison (λ k l. comparison_sound p (get_or p.comparisons k no_comparison) (rules Comparisons k l));
-      stages = AllByRecursion-from_get_or (SoundStage p) p.stages no_stage (λ k l. stage_sound p (get_or p.stages k no_stage) (rules Stages k l));
-      changes = AllByRecursion-from_get_or (SoundChange p) p.changes no_change (λ k l. change_sound p (get_or p.changes k no_change) (rules Changes k l));
-      outcomes = AllByRecursion-from_get_or (SoundOutcome p) p.outcomes no_outcome (λ k l. outcome_sound p (get_or p.outcomes k no_outcome) (rules Outcomes k l));
-      goals = AllByRecursion-from_get_or (SoundGoal p) p.goals no_goal (λ k l. goal_sound p (get_or p.goals k no_goal) (rules Goal k l));
+      timers = All-from_get_or SoundTimer p.timers no_timer (λ k l. timer_sound (get_or p.timers k no_timer) (rules Timers k l));
+      comparisons = All-from_get_or (SoundComparison p) p.comparisons no_comparison (λ k l. comparison_sound p (get_or p.comparisons k no_comparison) (rules Comparisons k l));
+      stages = All-from_get_or (SoundStage p) p.stages no_stage (λ k l. stage_sound p (get_or p.stages k no_stage) (rules Stages k l));
+      changes = All-from_get_or (SoundChange p) p.changes no_change (λ k l. change_sound p (get_or p.changes k no_change) (rules Changes k l));
+      outcomes = All-from_get_or (SoundOutcome p) p.outcomes no_outcome (λ k l. outcome_sound p (get_or p.outcomes k no_outcome) (rules Outcomes k l));
+      goals = All-from_get_or (SoundGoal p) p.goals no_goal (λ k l. goal_sound p (get_or p.goals k no_goal) (rules Goal k l));
     }
 
 -- no fault in handed tables means that they fit and the plan in them is sound
@@ -204,12 +204,12 @@ sound_from_none rooms n p e h =
     )
 
 record_keeps : (p : PlanRows) → Sound p → (s : SectionName) (k : ℕ) → k < count_of (counts_of p) s → Kept (record_rules p s k)
-record_keeps p h Timers k l = timer_keeps (get_or p.timers k no_timer) (AllByRecursion-get_or SoundTimer p.timers k no_timer l h.timers)
-record_keeps p h Comparisons k l = comparison_keeps p (get_or p.comparisons k no_comparison) (AllByRecursion-get_or (SoundComparison p) p.comparisons k no_comparison l h.comparisons)
-record_keeps p h Stages k l = stage_keeps p (get_or p.stages k no_stage) (AllByRecursion-get_or (SoundStage p) p.stages k no_stage l h.stages)
-record_keeps p h Changes k l = change_keeps p (get_or p.changes k no_change) (AllByRecursion-get_or (SoundChange p) p.changes k no_change l h.changes)
-record_keeps p h Outcomes k l = outcome_keeps p (get_or p.outcomes k no_outcome) (AllByRecursion-get_or (SoundOutcome p) p.outcomes k no_outcome l h.outcomes)
-record_keeps p h Goal k l = goal_keeps p (get_or p.goals k no_goal) (AllByRecursion-get_or (SoundGoal p) p.goals k no_goal l h.goals)
+record_keeps p h Timers k l = timer_keeps (get_or p.timers k no_timer) (All-get_or SoundTimer p.timers k no_timer l h.timers)
+record_keeps p h Comparisons k l = comparison_keeps p (get_or p.comparisons k no_comparison) (All-get_or (SoundComparison p) p.comparisons k no_comparison l h.comparisons)
+record_keeps p h Stages k l = stage_keeps p (get_or p.stages k no_stage) (All-get_or (SoundStage p) p.stages k no_stage l h.stages)
+record_keeps p h Changes k l = change_keeps p (get_or p.changes k no_change) (All-get_or (SoundChange p) p.changes k no_change l h.changes)
+record_keeps p h Outcomes k l = outcome_keeps p (get_or p.outcomes k no_outcome) (All-get_or (SoundOutcome p) p.outcomes k no_outcome l h.outcomes)
+record_keeps p h Goal k l = goal_keeps p (get_or p.goals k no_goal) (All-get_or (SoundGoal p) p.goals k no_goal l h.goals)
 
 pub no_row_fault : (p : PlanRows) → Sound p → rows_fault p ≡ None
 no_row_fault p h =

@@ -1,7 +1,7 @@
 -- The outcomes of a change of a checked plan, as the code finds them in its rows.
 use Rattle.std.proofs.Common.{◌≡◌, ℕ, ◌+◌, ◌<◌, ◌≤◌, true, List, map, length, get_or, drop, Some, Option, sym, ap, ◌∙◌, subst, arith}
 use Rattle.std.specs.List.{AllByRecursion}
-use Rattle.std.proofs.ByRecursion.{AllByRecursion-get_or, AllByRecursion-drop, AllByRecursion-take}
+use Rattle.std.proofs.ByRecursion.{All-get_or, All-drop, All-take}
 use Rattle.std.proofs.lemmas.List.{get_or-map, length-drop, length-take}
 use Rattle.rows.specs.declared.section.SectionName.TheVariants.{Outcomes}
 use Rattle.rows.specs.declared.tables.ChangeRow.{ChangeRow}
@@ -32,7 +32,7 @@ weights_allowed p i c own s h e =
 -- each of them is sound
 pub outcome_sound : (p : PlanRows) (row : ChangeRow) (own : List OutcomeRow) (n : ℕ) → faultless p ≡ true → own ≡ listed row.first_outcome row.outcomes p.outcomes → n < length own → SoundOutcome p (get_or own n no_outcome)
 outcome_sound p row own n s o l =
-    AllByRecursion-get_or (SoundOutcome p) own n no_outcome l (subst (AllByRecursion (SoundOutcome p)) (sym o) (AllByRecursion-take (SoundOutcome p) row.outcomes (drop row.first_outcome p.outcomes) (AllByRecursion-drop (SoundOutcome p) row.first_outcome p.outcomes (sound_from_faultless p s).outcomes)))
+    All-get_or (SoundOutcome p) own n no_outcome l (subst (AllByRecursion (SoundOutcome p)) (sym o) (All-take (SoundOutcome p) row.outcomes (drop row.first_outcome p.outcomes) (All-drop (SoundOutcome p) row.first_outcome p.outcomes (sound_from_faultless p s).outcomes)))
 
 -- and has its place in 16 bits
 pub outcome_place : (p : PlanRows) (row : ChangeRow) (own : List OutcomeRow) (n : ℕ) → faultless p ≡ true → own ≡ listed row.first_outcome row.outcomes p.outcomes → n < length own → row.first_outcome + n < 4096

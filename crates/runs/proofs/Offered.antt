@@ -1,7 +1,7 @@
 -- The offers are the possible changes.
 use Rattle.std.proofs.Common.{◌≡◌, ℕ, zero, suc, ◌+◌, ◌-◌, ◌<◌, ◌≤◌, true, false, cond, ◌⊎◌, ◌↔◌, List, [], ◌∷◌, length, get_or, sym, refl, ap, ◌∙◌, subst, inl, inr, arith}
 use Rattle.std.specs.List.{AllByRecursion}
-use Rattle.std.proofs.ByRecursion.{AllByRecursion-get_or, AllByRecursion-weaker}
+use Rattle.std.proofs.ByRecursion.{All-get_or, All-weaker}
 use Rattle.std.proofs.lemmas.Bool.{cases_Bool, cond-true, cond-false}
 use Rattle.theory.specs.Settings.{reach}
 use Rattle.theory.specs.Records.{Record, record_of}
@@ -49,7 +49,7 @@ comes_later r last c x xs o h =
 pub offers_come : (r : Record) (last c : ℕ) (xs : List Change) → AllByRecursion (ComesFrom r last c xs) (offers_from r last c xs)
 offers_come r last c [] = subst (AllByRecursion (ComesFrom r last c [])) (sym (offers_from_nil r last c)) tt
 offers_come r last c (x ∷ xs) =
-    go (cases_Bool (any_in (guard_span r last x.guard))) (AllByRecursion-weaker (ComesFrom r last (suc c) xs) (ComesFrom r last c (x ∷ xs)) (comes_later r last c x xs) (offers_from r last (suc c) xs) (offers_come r last (suc c) xs))
+    go (cases_Bool (any_in (guard_span r last x.guard))) (All-weaker (ComesFrom r last (suc c) xs) (ComesFrom r last c (x ∷ xs)) (comes_later r last c x xs) (offers_from r last (suc c) xs) (offers_come r last (suc c) xs))
   where
     go : (any_in (guard_span r last x.guard) ≡ true) ⊎ (any_in (guard_span r last x.guard) ≡ false) → AllByRecursion (ComesFrom r last c (x ∷ xs)) (offers_from r last (suc c) xs) → AllByRecursion (ComesFrom r last c (x ∷ xs)) (offers_from r last c (x ∷ xs))
     go (inl e) rest =
@@ -79,7 +79,7 @@ pub record OfferOfStage (plan : Plan) (i : ℕ) (r : Record) (o : Offer) : Type 
 
 pub offers_of_stage : (plan : Plan) (i : ℕ) (r : Record) → AllByRecursion (OfferOfStage plan i r) (offers_at plan i r)
 offers_of_stage plan i r =
-    AllByRecursion-weaker (ComesFrom r (top plan i r) (stage_of plan i).first (stage_of plan i).changes) (OfferOfStage plan i r) here (offers_at plan i r) (offers_come r (top plan i r) (stage_of plan i).first (stage_of plan i).changes)
+    All-weaker (ComesFrom r (top plan i r) (stage_of plan i).first (stage_of plan i).changes) (OfferOfStage plan i r) here (offers_at plan i r) (offers_come r (top plan i r) (stage_of plan i).first (stage_of plan i).changes)
   where
     here : (o : Offer) → ComesFrom r (top plan i r) (stage_of plan i).first (stage_of plan i).changes o → OfferOfStage plan i r o
     here o h =
@@ -102,11 +102,11 @@ offer_in_order plan i r o h =
 
 pub offers_in_order : (plan : Plan) (i : ℕ) (r : Record) → AllByRecursion (λ o. o.lowest ≤ o.highest) (offers_at plan i r)
 offers_in_order plan i r =
-    AllByRecursion-weaker (OfferOfStage plan i r) (λ o. o.lowest ≤ o.highest) (λ o h. (offer_in_order plan i r o h).0) (offers_at plan i r) (offers_of_stage plan i r)
+    All-weaker (OfferOfStage plan i r) (λ o. o.lowest ≤ o.highest) (λ o h. (offer_in_order plan i r o h).0) (offers_at plan i r) (offers_of_stage plan i r)
 
 pub offers_within_hold : (plan : Plan) (i : ℕ) (r : Record) → AllByRecursion (λ o. o.highest ≤ top plan i r) (offers_at plan i r)
 offers_within_hold plan i r =
-    AllByRecursion-weaker (OfferOfStage plan i r) (λ o. o.highest ≤ top plan i r) (λ o h. (offer_in_order plan i r o h).1) (offers_at plan i r) (offers_of_stage plan i r)
+    All-weaker (OfferOfStage plan i r) (λ o. o.highest ≤ top plan i r) (λ o h. (offer_in_order plan i r o h).1) (offers_at plan i r) (offers_of_stage plan i r)
 
 -- a wait between the ends of an offer is one that the guard allows
 pub offer_within : (plan : Plan) (i : ℕ) (r : Record) (o : Offer) (d : ℕ) → OfferOfStage plan i r o → ((o.lowest ≤ d) × (d ≤ o.highest)) ↔ Within d (guard_span r (top plan i r) (change_of plan i o.change).guard)
@@ -121,7 +121,7 @@ offered_is plan i r c = (to, from)
   where
     to : Offered (offers_at plan i r) c → OfStage plan i c × (any_in (guard_span r (top plan i r) (change_of plan i c).guard) ≡ true)
     to w =
-        let h = AllByRecursion-get_or (OfferOfStage plan i r) (offers_at plan i r) w.0 blank_offer w.1 (offers_of_stage plan i r) in
+        let h = All-get_or (OfferOfStage plan i r) (offers_at plan i r) w.0 blank_offer w.1 (offers_of_stage plan i r) in
         (subst (OfStage plan i) w.2 h.of_stage, subst (λ z. any_in (guard_span r (top plan i r) (change_of plan i z).guard) ≡ true) w.2 h.its_waits)
 
     from : OfStage plan i c × (any_in (guard_span r (top plan i r) (change_of plan i c).guard) ≡ true) → Offered (offers_at plan i r) c
@@ -180,6 +180,6 @@ pub offers_are_the_possible_changes : OffersAreThePossibleChanges
 offers_are_the_possible_changes =
     record {
       offered = offered_is_possible;
-      waits = λ plan i D v s h n. AllByRecursion-weaker (OfferOfStage plan i (record_of D v)) (λ o. (d : ℕ) → ((o.lowest ≤ d) × (d ≤ o.highest)) ↔ GuardTrueAt plan i D v o.change d) (offer_waits plan i D v s h n) (offers_at plan i (record_of D v)) (offers_of_stage plan i (record_of D v));
-      ends = λ plan i D v s h n. AllByRecursion-weaker (OfferOfStage plan i (record_of D v)) (λ o. FirstAndLast (GuardTrueAt plan i D v o.change) o.lowest o.highest) (offer_ends plan i D v s h n) (offers_at plan i (record_of D v)) (offers_of_stage plan i (record_of D v));
+      waits = λ plan i D v s h n. All-weaker (OfferOfStage plan i (record_of D v)) (λ o. (d : ℕ) → ((o.lowest ≤ d) × (d ≤ o.highest)) ↔ GuardTrueAt plan i D v o.change d) (offer_waits plan i D v s h n) (offers_at plan i (record_of D v)) (offers_of_stage plan i (record_of D v));
+      ends = λ plan i D v s h n. All-weaker (OfferOfStage plan i (record_of D v)) (λ o. FirstAndLast (GuardTrueAt plan i D v o.change) o.lowest o.highest) (offer_ends plan i D v s h n) (offers_at plan i (record_of D v)) (offers_of_stage plan i (record_of D v));
     }

@@ -1,7 +1,7 @@
 -- Sound tables hold a sound plan.
 use Rattle.std.proofs.Common.{◌≡◌, ℕ, ◌+◌, ◌≤◌, ltb, List, [], ◌∷◌, map, length, drop, sum_by, sym, ap, ◌∙◌, arith}
 use Rattle.std.specs.List.{AllByRecursion}
-use Rattle.std.proofs.ByRecursion.{AllByRecursion-drop, AllByRecursion-map, AllByRecursion-take, AllByRecursion-weaker}
+use Rattle.std.proofs.ByRecursion.{All-drop, All-map, All-take, All-weaker}
 use Rattle.std.proofs.lemmas.List.{length-drop, length-map, length-take}
 use Rattle.std.proofs.lemmas.List.Sums.{sum_by-cons}
 use Rattle.std.proofs.lemmas.Bool.{cond_both, ltb-false}
@@ -27,7 +27,7 @@ ceilings_counted p = length-map p.timers (λ t. t.ceiling)
 
 -- what holds of every row holds of those that a list names
 all_listed : {X : Type 0} (P : X → Type 0) (first n : ℕ) (rows : List X) → AllByRecursion P rows → AllByRecursion P (listed first n rows)
-all_listed P first n rows h = AllByRecursion-take P n (drop first rows) (AllByRecursion-drop P first rows h)
+all_listed P first n rows h = All-take P n (drop first rows) (All-drop P first rows h)
 
 comparison_named : (p : PlanRows) (c : ComparisonRow) → SoundComparison p c → NamesBelow (length (plan_in p).ceilings) (comparison_of_row c)
 comparison_named p c h =
@@ -36,7 +36,7 @@ comparison_named p c h =
 -- the comparisons of any list name timers of the plan
 comparisons_named : (p : PlanRows) → SoundRows p → (first n : ℕ) → NamedIn (plan_in p) (comparisons_of p first n)
 comparisons_named p s first n =
-    AllByRecursion-map (NamesBelow (length (plan_in p).ceilings)) comparison_of_row (listed first n p.comparisons) (all_listed (λ c. NamesBelow (length (plan_in p).ceilings) (comparison_of_row c)) first n p.comparisons (AllByRecursion-weaker (SoundComparison p) (λ c. NamesBelow (length (plan_in p).ceilings) (comparison_of_row c)) (comparison_named p) p.comparisons s.comparisons))
+    All-map (NamesBelow (length (plan_in p).ceilings)) comparison_of_row (listed first n p.comparisons) (all_listed (λ c. NamesBelow (length (plan_in p).ceilings) (comparison_of_row c)) first n p.comparisons (All-weaker (SoundComparison p) (λ c. NamesBelow (length (plan_in p).ceilings) (comparison_of_row c)) (comparison_named p) p.comparisons s.comparisons))
 
 outcome_sound : (p : PlanRows) (o : OutcomeRow) → SoundOutcome p o → SoundPlanOutcome (plan_in p) (outcome_of_row p o)
 outcome_sound p o h =
@@ -57,7 +57,7 @@ change_sound p s c h =
     record {
       guard_named = comparisons_named p s c.first_guard c.guards;
       some_outcome = omega (arith, length-map rows (outcome_of_row p), length-take c.outcomes (drop c.first_outcome p.outcomes), length-drop c.first_outcome p.outcomes, h.some_outcome, h.outcomes_inside);
-      outcomes_sound = AllByRecursion-map (SoundPlanOutcome (plan_in p)) (outcome_of_row p) rows (all_listed (λ o. SoundPlanOutcome (plan_in p) (outcome_of_row p o)) c.first_outcome c.outcomes p.outcomes (AllByRecursion-weaker (SoundOutcome p) (λ o. SoundPlanOutcome (plan_in p) (outcome_of_row p o)) (outcome_sound p) p.outcomes s.outcomes));
+      outcomes_sound = All-map (SoundPlanOutcome (plan_in p)) (outcome_of_row p) rows (all_listed (λ o. SoundPlanOutcome (plan_in p) (outcome_of_row p o)) c.first_outcome c.outcomes p.outcomes (All-weaker (SoundOutcome p) (λ o. SoundPlanOutcome (plan_in p) (outcome_of_row p o)) (outcome_sound p) p.outcomes s.outcomes));
       weights_fit = omega (arith, weights_as_summed p rows, h.weights);
     }
   where
@@ -68,7 +68,7 @@ stage_sound : (p : PlanRows) → SoundRows p → (x : StageRow) → SoundPlanSta
 stage_sound p s x =
     record {
       hold_named = comparisons_named p s x.first_hold x.holds;
-      changes_sound = AllByRecursion-map (SoundPlanChange (plan_in p)) (change_of_row p) (listed x.first_change x.changes p.changes) (all_listed (λ c. SoundPlanChange (plan_in p) (change_of_row p c)) x.first_change x.changes p.changes (AllByRecursion-weaker (SoundChange p) (λ c. SoundPlanChange (plan_in p) (change_of_row p c)) (change_sound p s) p.changes s.changes));
+      changes_sound = All-map (SoundPlanChange (plan_in p)) (change_of_row p) (listed x.first_change x.changes p.changes) (all_listed (λ c. SoundPlanChange (plan_in p) (change_of_row p c)) x.first_change x.changes p.changes (All-weaker (SoundChange p) (λ c. SoundPlanChange (plan_in p) (change_of_row p c)) (change_sound p s) p.changes s.changes));
     }
 
 goal_named : (p : PlanRows) → SoundRows p → (gs : List GoalRow) → NamedIn (plan_in p) (goal_of p gs)
@@ -79,8 +79,8 @@ pub tables_sound : (p : PlanRows) → SoundRows p → Sound (plan_in p)
 tables_sound p s =
     record {
       some_timer = omega (arith, ceilings_counted p, s.enough Timers);
-      timers_run = AllByRecursion-map (λ m. 1 ≤ m) (λ (t : TimerRow). t.ceiling) p.timers (AllByRecursion-weaker SoundTimer (λ t. 1 ≤ t.ceiling) (λ t h. h.runs) p.timers s.timers);
+      timers_run = All-map (λ m. 1 ≤ m) (λ (t : TimerRow). t.ceiling) p.timers (All-weaker SoundTimer (λ t. 1 ≤ t.ceiling) (λ t h. h.runs) p.timers s.timers);
       some_stage = omega (arith, length-map p.stages (stage_of_row p), s.enough Stages);
-      stages_sound = AllByRecursion-map (SoundPlanStage (plan_in p)) (stage_of_row p) p.stages (AllByRecursion-weaker (SoundStage p) (λ x. SoundPlanStage (plan_in p) (stage_of_row p x)) (λ x h. stage_sound p s x) p.stages s.stages);
+      stages_sound = All-map (SoundPlanStage (plan_in p)) (stage_of_row p) p.stages (All-weaker (SoundStage p) (λ x. SoundPlanStage (plan_in p) (stage_of_row p x)) (λ x h. stage_sound p s x) p.stages s.stages);
       goal_named = goal_named p s p.goals;
     }

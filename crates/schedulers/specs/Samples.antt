@@ -1,7 +1,7 @@
 -- A hash of 32 bits chooses a place in every list and a wait in every offer.
 use Rattle.std.specs.Prelude.{◌≡◌, ℕ, ◌+◌, ◌-◌, ◌*◌, ◌^◌, ◌<◌, ◌≤◌, List, [], ◌∷◌, ◌++◌, length, get_or, take, Some, None, fold, bit_xor, slice_index_or, refl}
 use Rattle.std.proofs.Common.{sym, ap, ◌∙◌, mod-lt, mul-le-mul_right, mul-zero, suc-mul, arith}
-use Rattle.std.proofs.ByRecursion.{AllByRecursion-get_or}
+use Rattle.std.proofs.ByRecursion.{All-get_or}
 use Rattle.std.proofs.lemmas.List.{get_or-map, get_or-take, flat_map_more, length-map, length-take, take_more}
 use Rattle.std.proofs.lemmas.Bool.Decides.{nat_tests}
 use Rattle.std.specs.List.{flat_map, AllByRecursion}
@@ -58,7 +58,7 @@ pub hashed_within : (h : ℕ) (os : List Offer) → h < 2 ^ 32 → 1 ≤ length 
 hashed_within h os small some ordered =
     let place = scaled_below h (length os) small some in
     let o : Offer = offer_at os (scaled h (length os)) in
-    let order = AllByRecursion-get_or (λ (x : Offer). x.lowest ≤ x.highest) os (scaled h (length os)) blank_offer place ordered in
+    let order = All-get_or (λ (x : Offer). x.lowest ≤ x.highest) os (scaled h (length os)) blank_offer place ordered in
     let part = scaled_below (following h) (o.highest - o.lowest + 1) (following_small h) (omega arith) in
     (place, omega arith, omega arith)
 

@@ -5,7 +5,7 @@ use native.Mathlib.Nat.{div-add-mod}
 use lib.ListN.{length-map}
 use Rattle.std.specs.List.{AllByRecursion}
 use Rattle.std.proofs.lemmas.List.{get_or-map}
-use Rattle.std.proofs.ByRecursion.{AllByRecursion-weaker}
+use Rattle.std.proofs.ByRecursion.{All-weaker}
 use Rattle.std.proofs.lemmas.Bool.Decides.{nat_tests}
 use Rattle.theory.specs.Records.{Timer, Record, edge, count, timer_at, timer_no, fresh, wait, single_steps}
 use Rattle.theory.proofs.Held.{map_every}
@@ -92,7 +92,7 @@ timer_of_count r t u h e = timer_from_count r.classes t.seconds t.rank (edge r) 
 -- no wait alters nothing
 pub wait_none : (r : Record) → AllByRecursion (λ t. t.rank < r.classes) r.timers → wait 0 r ≡ r
 wait_none r h =
-    same_record (wait 0 r) r (wait_whole 0 r ∙ go r.whole) (wait_classes 0 r) (wait_timers 0 r ∙ map_itself (λ t. timer_at r.classes (count r t + 0)) r.timers (AllByRecursion-weaker (λ t. t.rank < r.classes) (λ t. timer_at r.classes (count r t + 0) ≡ t) (λ t l. timer_of_count r t (count r t + 0) l (omega arith)) r.timers h))
+    same_record (wait 0 r) r (wait_whole 0 r ∙ go r.whole) (wait_classes 0 r) (wait_timers 0 r ∙ map_itself (λ t. timer_at r.classes (count r t + 0)) r.timers (All-weaker (λ t. t.rank < r.classes) (λ t. timer_at r.classes (count r t + 0) ≡ t) (λ t l. timer_of_count r t (count r t + 0) l (omega arith)) r.timers h))
   where
     go : (b : Bool) → eqb ((cond b 0 1 + 0) % 2) 0 ≡ b
     go true = refl

@@ -3,7 +3,7 @@ use Rattle.std.proofs.Common.{◌≡◌, ℕ, zero, suc, ◌+◌, ◌-◌, ◌*�
 use mathlib.Core.List.{map-map}
 use native.Mathlib.Nat.{mod-add-mod, add-mod_right, mod_self}
 use Rattle.std.specs.List.{AllByRecursion}
-use Rattle.std.proofs.ByRecursion.{AllByRecursion-from_get_or}
+use Rattle.std.proofs.ByRecursion.{All-from_get_or}
 use Rattle.std.proofs.lemmas.Bool.{cases_eq, eq-eqb, ne_eqb}
 use Rattle.theory.specs.Settings.{held, later, finer}
 
@@ -79,7 +79,7 @@ held_by_some D (c ∷ v) x h = go (cases_eq (c % D) x) (held_by_some D v x)
     go (inr e) r = next (r (sym (held_there D c v x e) ∙ h))
 
 pub all_held : (D : ℕ) (v : List ℕ) → AllByRecursion (λ c. held D v (c % D) ≡ 1) v
-all_held D v = AllByRecursion-from_get_or (λ c. held D v (c % D) ≡ 1) v 0 (held_at D v)
+all_held D v = All-from_get_or (λ c. held D v (c % D) ≡ 1) v 0 (held_at D v)
 
 pub later_later : (s t : ℕ) (v : List ℕ) → later s (later t v) ≡ later (t + s) v
 later_later s t v =

@@ -5,7 +5,7 @@ use mathlib.Core.List.{map-map}
 use native.Mathlib.Nat.{div-add-mod, add-mul-mod_self_right}
 use lib.ListN.{length-map}
 use Rattle.std.specs.List.{AllByRecursion}
-use Rattle.std.proofs.ByRecursion.{AllByRecursion-map, AllByRecursion-weaker}
+use Rattle.std.proofs.ByRecursion.{All-map, All-weaker}
 use Rattle.std.proofs.lemmas.Bool.{cases_lt, cases_eq}
 use Rattle.theory.specs.Settings.{total, held, later, finer, steps, reach}
 use Rattle.theory.specs.Records.{record_of, record_in, wait}
@@ -101,7 +101,7 @@ half_tick_crosses_one D v s d = go (cases_eq (s % 2) 0)
 
     none : (x : ℕ) → ((c : ℕ) → (2 * c + s) % (2 * D) ≡ x → ⊥) → held (2 * D) (later s (finer 2 v)) x ≡ 0
     none x h =
-        held_none (2 * D) (later s (finer 2 v)) x (AllByRecursion-map (λ c. c % (2 * D) ≡ x → ⊥) (λ c. c + s) (finer 2 v) (AllByRecursion-map (λ c. (c + s) % (2 * D) ≡ x → ⊥) (λ c. 2 * c) v (all_every (λ c. (2 * c + s) % (2 * D) ≡ x → ⊥) v h)))
+        held_none (2 * D) (later s (finer 2 v)) x (All-map (λ c. c % (2 * D) ≡ x → ⊥) (λ c. c + s) (finer 2 v) (All-map (λ c. (c + s) % (2 * D) ≡ x → ⊥) (λ c. 2 * c) v (all_every (λ c. (2 * c + s) % (2 * D) ≡ x → ⊥) v h)))
 
     go : (s % 2 ≡ 0) ⊎ (s % 2 ≡ 0 → ⊥) → crossed (2 * D) (finer 2 v) s ≤ 1
     go (inl z) =
@@ -162,7 +162,7 @@ coarser g D v h d e m p =
 
     ticks : finer g (finer 2 (map (λ c. c / (2 * g)) v)) ≡ v
     ticks =
-        ap (finer g) (map-map (λ c. 2 * c) (λ c. c / (2 * g)) v) ∙ (map-map (λ c. g * c) (λ c. 2 * (c / (2 * g))) v ∙ map_itself (λ c. g * (2 * (c / (2 * g)))) v (AllByRecursion-weaker (λ c. c % (2 * g) ≡ 0) (λ c. g * (2 * (c / (2 * g))) ≡ c) each v m))
+        ap (finer g) (map-map (λ c. 2 * c) (λ c. c / (2 * g)) v) ∙ (map-map (λ c. g * c) (λ c. 2 * (c / (2 * g))) v ∙ map_itself (λ c. g * (2 * (c / (2 * g)))) v (All-weaker (λ c. c % (2 * g) ≡ 0) (λ c. g * (2 * (c / (2 * g))) ≡ c) each v m))
 
 pub coarser_fineness : (g D : ℕ) → 1 ≤ g → 1 ≤ D → D % (2 * g) ≡ 0 → 1 ≤ D / (2 * g)
 coarser_fineness g D h d e = go (D / (2 * g)) (multiple_splits g D h e)

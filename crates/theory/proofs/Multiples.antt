@@ -2,7 +2,7 @@
 use Rattle.std.proofs.Common.{◌≡◌, ℕ, ◌+◌, ◌*◌, ◌/◌, ◌%◌, Bool, true, false, List, [], ◌∷◌, ap, ◌∙◌, arith}
 use native.Mathlib.Nat.{add-mul-mod_self_left, mul-mod_right, zero-mod, div-add-mod}
 use Rattle.std.specs.List.{AllByRecursion}
-use Rattle.std.proofs.ByRecursion.{AllByRecursion-map, AllByRecursion-weaker}
+use Rattle.std.proofs.ByRecursion.{All-map, All-weaker}
 use Rattle.theory.specs.Settings.{later, finer, marked, cleared}
 use Rattle.theory.proofs.Held.{all_every}
 
@@ -11,7 +11,7 @@ abbrev pub Multiples : ℕ → List ℕ → Type 0
 Multiples g v = AllByRecursion (λ c. c % g ≡ 0) v
 
 pub finer_are_multiples : (g q : ℕ) (v : List ℕ) → Multiples g (finer (g * q) v)
-finer_are_multiples g q v = AllByRecursion-map (λ c. c % g ≡ 0) (λ c. g * q * c) v (all_every (λ c. (g * q * c) % g ≡ 0) v each)
+finer_are_multiples g q v = All-map (λ c. c % g ≡ 0) (λ c. g * q * c) v (all_every (λ c. (g * q * c) % g ≡ 0) v each)
   where
     each : (c : ℕ) → (g * q * c) % g ≡ 0
     each c = ap (λ z. z % g) e ∙ mul-mod_right g (q * c)
@@ -21,7 +21,7 @@ finer_are_multiples g q v = AllByRecursion-map (λ c. c % g ≡ 0) (λ c. g * q 
 
 pub later_keeps_multiples : (g p : ℕ) (v : List ℕ) → Multiples g v → Multiples g (later (g * p) v)
 later_keeps_multiples g p v h =
-    AllByRecursion-map (λ c. c % g ≡ 0) (λ c. c + g * p) v (AllByRecursion-weaker (λ c. c % g ≡ 0) (λ c. (c + g * p) % g ≡ 0) (λ c e. add-mul-mod_self_left c g p ∙ e) v h)
+    All-map (λ c. c % g ≡ 0) (λ c. c + g * p) v (All-weaker (λ c. c % g ≡ 0) (λ c. (c + g * p) % g ≡ 0) (λ c e. add-mul-mod_self_left c g p ∙ e) v h)
 
 pub cleared_keeps_multiples : (g : ℕ) (marks : List Bool) (v : List ℕ) → Multiples g v → Multiples g (cleared marks v)
 unfolding marked
@@ -40,4 +40,4 @@ multiple_of_factor a g c h = ap (λ z. z % g) e ∙ mul-mod_right g (a * (c / (a
 
 pub multiples_of_factor : (a g : ℕ) (v : List ℕ) → Multiples (a * g) v → Multiples g v
 multiples_of_factor a g v h =
-    AllByRecursion-weaker (λ c. c % (a * g) ≡ 0) (λ c. c % g ≡ 0) (λ c e. multiple_of_factor a g c e) v h
+    All-weaker (λ c. c % (a * g) ≡ 0) (λ c. c % g ≡ 0) (λ c e. multiple_of_factor a g c e) v h

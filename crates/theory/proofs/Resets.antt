@@ -2,7 +2,7 @@
 use Rattle.std.proofs.Common.{◌≡◌, ℕ, zero, suc, ◌+◌, ◌*◌, ◌%◌, ◌<◌, ◌≤◌, Bool, true, false, cond, ◌&&◌, eqb, ◌⊎◌, List, [], ◌∷◌, map, length, sym, refl, ap, ◌∙◌, ap₂, inl, inr, arith}
 use native.Mathlib.Nat.{zero-mod, zero-div}
 use Rattle.std.specs.List.{AllByRecursion}
-use Rattle.std.proofs.ByRecursion.{AllByRecursion-weaker}
+use Rattle.std.proofs.ByRecursion.{All-weaker}
 use Rattle.std.proofs.lemmas.Bool.{cases_eq, cases_order, cases_Bool, eq-eqb, ne_eqb, and_right, and_left, cond-true, cond-false}
 use Rattle.theory.specs.Settings.{total, held, marked, unmarked, any_marked, cleared}
 use Rattle.theory.specs.Records.{Timer, Record, record_of, timer_of, fresh, ranked, at_zero, live, reranked, reset}
@@ -140,7 +140,7 @@ held_is_live D v marks x h = held_cleared D marks v x h ∙ go (cases_eq (held D
     go : (held D v x ≡ 1) ⊎ (held D v x ≡ 1 → ⊥) → held D (unmarked marks v) x ≡ held D v x * live marks (record_of D v) (total (held D v) x)
     go (inl e) = omega (arith, ap (λ n. n * live marks (record_of D v) (total (held D v) x)) e, live_here e)
     go (inr e) =
-        omega (arith, ap (λ n. n * live marks (record_of D v) (total (held D v) x)) none, held_none D (unmarked marks v) x (AllByRecursion-weaker (λ c. held D v (c % D) ≡ 1) (λ c. c % D ≡ x → ⊥) (λ c k s. e (ap (held D v) (sym s) ∙ k)) (unmarked marks v) kept))
+        omega (arith, ap (λ n. n * live marks (record_of D v) (total (held D v) x)) none, held_none D (unmarked marks v) x (All-weaker (λ c. held D v (c % D) ≡ 1) (λ c. c % D ≡ x → ⊥) (λ c k s. e (ap (held D v) (sym s) ∙ k)) (unmarked marks v) kept))
       where
         none : held D v x ≡ 0
         none = omega (arith, held_bit D v x)
@@ -215,5 +215,5 @@ record_of_cleared D v marks d l = go (cases_Bool (any_marked marks))
 
     go : (any_marked marks ≡ true) ⊎ (any_marked marks ≡ false) → record_of D (cleared marks v) ≡ reset marks (record_of D v)
     go (inl h) =
-        same_record (record_of D (cleared marks v)) (record { whole = true; classes = 1 + total (live marks (record_of D v)) (total (held D v) D); timers = marked fresh (reranked marks (record_of D v)) marks (map (timer_of D v) v) }) (eq-eqb (held D (cleared marks v) 0) 1 (held_cleared_zero D marks v l h)) (classes_are D d h) (map_marked (timer_of D (cleared marks v)) 0 (λ c. c) fresh (reranked marks (record_of D v)) (timer_of D v) (timer_fresh D (cleared marks v)) marks v (AllByRecursion-weaker (λ c. held D v (c % D) ≡ 1) (λ c. timer_of D (cleared marks v) c ≡ reranked marks (record_of D v) (timer_of D v c)) (λ c k. timer_cleared D v marks c l h k) v (all_held D v))) ∙ sym (reset_some marks (record_of D v) h)
+        same_record (record_of D (cleared marks v)) (record { whole = true; classes = 1 + total (live marks (record_of D v)) (total (held D v) D); timers = marked fresh (reranked marks (record_of D v)) marks (map (timer_of D v) v) }) (eq-eqb (held D (cleared marks v) 0) 1 (held_cleared_zero D marks v l h)) (classes_are D d h) (map_marked (timer_of D (cleared marks v)) 0 (λ c. c) fresh (reranked marks (record_of D v)) (timer_of D v) (timer_fresh D (cleared marks v)) marks v (All-weaker (λ c. held D v (c % D) ≡ 1) (λ c. timer_of D (cleared marks v) c ≡ reranked marks (record_of D v) (timer_of D v c)) (λ c k. timer_cleared D v marks c l h k) v (all_held D v))) ∙ sym (reset_some marks (record_of D v) h)
     go (inr h) = ap (record_of D) (cleared_none marks v h) ∙ sym (reset_none marks (record_of D v) h)

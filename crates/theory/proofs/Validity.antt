@@ -4,7 +4,7 @@ use mathlib.Core.List.{map-map}
 use lib.ListN.{length-map}
 use Rattle.std.specs.List.{AllByRecursion}
 use Rattle.std.proofs.lemmas.List.{get_or-map}
-use Rattle.std.proofs.ByRecursion.{AllByRecursion-map, AllByRecursion-weaker, AllByRecursion-from_get_or}
+use Rattle.std.proofs.ByRecursion.{All-map, All-weaker, All-from_get_or}
 use Rattle.std.proofs.lemmas.Bool.{cases_lt, cases_Bool}
 use Rattle.theory.specs.Settings.{total, held, later, finer, reach, cleared}
 use Rattle.theory.specs.Records.{Timer, Record, Valid, record_of, record_in, timer_of, timer_no, fresh, edge, count, wait, reset}
@@ -52,7 +52,7 @@ record_of_is_valid D v d h =
     }
 
 pub ranks_below_all : (r : Record) → Valid r → AllByRecursion (λ t. t.rank < r.classes) r.timers
-ranks_below_all r ok = AllByRecursion-from_get_or (λ t. t.rank < r.classes) r.timers fresh ok.ranks_below
+ranks_below_all r ok = All-from_get_or (λ t. t.rank < r.classes) r.timers fresh ok.ranks_below
 
 -- the ticks of a record: its counts, at two ticks for each class
 abbrev pub ticks_of : Record → List ℕ
@@ -78,7 +78,7 @@ ticks_held r ok j h = ap (held (2 * r.classes) (ticks_of r)) (sym at) ∙ held_a
 
 pub ticks_not_held : (r : Record) → Valid r → (j : ℕ) → held (2 * r.classes) (ticks_of r) (2 * j + (1 - edge r)) ≡ 0
 ticks_not_held r ok j =
-    held_none (2 * r.classes) (ticks_of r) (2 * j + (1 - edge r)) (AllByRecursion-map (λ c. c % (2 * r.classes) ≡ 2 * j + (1 - edge r) → ⊥) (count r) r.timers (AllByRecursion-weaker (λ t. t.rank < r.classes) (λ t. count r t % (2 * r.classes) ≡ 2 * j + (1 - edge r) → ⊥) each r.timers (ranks_below_all r ok)))
+    held_none (2 * r.classes) (ticks_of r) (2 * j + (1 - edge r)) (All-map (λ c. c % (2 * r.classes) ≡ 2 * j + (1 - edge r) → ⊥) (count r) r.timers (All-weaker (λ t. t.rank < r.classes) (λ t. count r t % (2 * r.classes) ≡ 2 * j + (1 - edge r) → ⊥) each r.timers (ranks_below_all r ok)))
   where
     each : (t : Timer) → t.rank < r.classes → count r t % (2 * r.classes) ≡ 2 * j + (1 - edge r) → ⊥
     each t h e = omega (arith, ticks_mod r t h, edge_bit r)
@@ -161,7 +161,7 @@ ticks_whole r ok = go (edge_cases r)
 -- a valid record is the record of its counts
 pub valid_is_of_its_counts : (r : Record) → Valid r → record_of (2 * r.classes) (ticks_of r) ≡ r
 valid_is_of_its_counts r ok =
-    same_record (record_of (2 * r.classes) (ticks_of r)) r (ticks_whole r ok) (ticks_total r ok r.classes (omega arith)) (map-map (timer_of (2 * r.classes) (ticks_of r)) (count r) r.timers ∙ map_itself (λ t. timer_of (2 * r.classes) (ticks_of r) (count r t)) r.timers (AllByRecursion-weaker (λ t. t.rank < r.classes) (λ t. timer_of (2 * r.classes) (ticks_of r) (count r t) ≡ t) each r.timers (ranks_below_all r ok)))
+    same_record (record_of (2 * r.classes) (ticks_of r)) r (ticks_whole r ok) (ticks_total r ok r.classes (omega arith)) (map-map (timer_of (2 * r.classes) (ticks_of r)) (count r) r.timers ∙ map_itself (λ t. timer_of (2 * r.classes) (ticks_of r) (count r t)) r.timers (All-weaker (λ t. t.rank < r.classes) (λ t. timer_of (2 * r.classes) (ticks_of r) (count r t) ≡ t) each r.timers (ranks_below_all r ok)))
   where
     each : (t : Timer) → t.rank < r.classes → timer_of (2 * r.classes) (ticks_of r) (count r t) ≡ t
     each t h =

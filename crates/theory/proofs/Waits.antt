@@ -3,7 +3,7 @@ use Rattle.std.proofs.Common.{◌≡◌, ℕ, zero, suc, ◌+◌, ◌-◌, ◌*�
 use mathlib.Core.List.{map-map}
 use native.Mathlib.Nat.{zero-mod}
 use Rattle.std.specs.List.{AllByRecursion}
-use Rattle.std.proofs.ByRecursion.{AllByRecursion-weaker}
+use Rattle.std.proofs.ByRecursion.{All-weaker}
 use Rattle.std.proofs.lemmas.Bool.Decides.{nat_tests}
 use Rattle.theory.specs.Settings.{total, held, later, steps}
 use Rattle.theory.specs.Records.{Timer, Record, timer_of, record_of, edge, count, timer_at, wait}
@@ -166,4 +166,4 @@ ticks_are_a_wait D v d t =
 
     timers_are : map (timer_of D (later t v)) (later t v) ≡ (wait (steps D v t) (record_of D v)).timers
     timers_are =
-        map-map (timer_of D (later t v)) (λ c. c + t) v ∙ (map_same (λ c. timer_of D (later t v) (c + t)) (λ c. timer_at (total (held D v) D) (place D v c + steps D v t)) v (AllByRecursion-weaker (λ c. held D (later t v) ((c + t) % D) ≡ 1) (λ c. timer_of D (later t v) (c + t) ≡ timer_at (total (held D v) D) (place D v c + steps D v t)) one v (all_unmap (λ c. held D (later t v) (c % D) ≡ 1) (λ c. c + t) v (all_held D (later t v)))) ∙ sym (wait_of_timers (steps D v t) D v))
+        map-map (timer_of D (later t v)) (λ c. c + t) v ∙ (map_same (λ c. timer_of D (later t v) (c + t)) (λ c. timer_at (total (held D v) D) (place D v c + steps D v t)) v (All-weaker (λ c. held D (later t v) ((c + t) % D) ≡ 1) (λ c. timer_of D (later t v) (c + t) ≡ timer_at (total (held D v) D) (place D v c + steps D v t)) one v (all_unmap (λ c. held D (later t v) (c % D) ≡ 1) (λ c. c + t) v (all_held D (later t v)))) ∙ sym (wait_of_timers (steps D v t) D v))
