@@ -9,7 +9,7 @@ use rows::reading::{Comparison, Relation, Subject};
 use rows::section::Counts;
 use rows::tables::{ChangeRow, ComparisonRow, GoalRow, OutcomeRow, StageRow, TimerRow};
 use runs::Offer;
-use std::process::Abort;
+use std::test::Fail;
 
 const TEN: TimerRow = TimerRow { ceiling: 10 };
 
@@ -107,10 +107,10 @@ fn plan_of<'a>(rows: &'a Rows, goals: usize) -> Plan<'a> {
 }
 
 // The region so many steps after all timers were at zero.
-fn after(rt: &impl Abort, steps: u32) -> Region {
+fn after(steps: u32) -> Result<Region, Fail> {
     let mut region = Region::opening(2);
-    assert!(rt; region.wait(steps, &TIMERS).is_ok());
-    region
+    region.wait(steps, &TIMERS)?;
+    Ok(region)
 }
 
 #[test]
@@ -133,15 +133,16 @@ fn the_change_is_offered_from_two_to_three_seconds(rt: HostRuntime) {
 }
 
 #[test]
-fn a_stage_past_its_hold_lasts_no_longer(rt: HostRuntime) {
+fn a_stage_past_its_hold_lasts_no_longer(rt: HostRuntime) -> Result<(), Fail> {
     let rows = example(3);
     let plan = plan_of(&rows, 1);
-    let region = after(&rt, 8);
+    let region = after(8)?;
     assert_eq!(rt; top(&plan, 0, &region), 0);
     let list = possible_changes(&plan, 0, &region);
     assert_eq!(rt; list.len, 1);
     assert_eq!(rt; list.items[0].lowest, 0);
     assert_eq!(rt; list.items[0].highest, 0);
+    Ok(())
 }
 
 #[test]
@@ -163,25 +164,27 @@ fn tables_that_do_not_pass_make_a_plan_in_which_nothing_happens(rt: HostRuntime)
 }
 
 #[test]
-fn the_goal_counts_in_its_stage_while_it_is_on(rt: HostRuntime) {
+fn the_goal_counts_in_its_stage_while_it_is_on(rt: HostRuntime) -> Result<(), Fail> {
     let rows = example(3);
     let plan = plan_of(&rows, 1);
-    let late = after(&rt, 9);
+    let late = after(9)?;
     assert!(rt; goal_by(&plan, 1, &Region::opening(2), 0));
     assert!(rt; !goal_by(&plan, 0, &Region::opening(2), 0));
     assert!(rt; !goal_by(&plan, 1, &late, 4294967295));
+    Ok(())
 }
 
 #[test]
-fn a_timer_past_its_constant_forbids_every_wait(rt: HostRuntime) {
-    let region = after(&rt, 8);
+fn a_timer_past_its_constant_forbids_every_wait(rt: HostRuntime) -> Result<(), Fail> {
+    let region = after(8)?;
     assert!(rt; !cuts(&region, &[x(2, 3)], Span::upto(20)).is_some());
     assert_eq!(rt; cuts(&region, &[x(0, 3)], Span::upto(20)), Span::upto(20));
+    Ok(())
 }
 
 #[test]
-fn a_lead_allows_every_wait_or_none(rt: HostRuntime) {
-    let mut region = after(&rt, 3);
+fn a_lead_allows_every_wait_or_none(rt: HostRuntime) -> Result<(), Fail> {
+    let mut region = after(3)?;
     assert!(rt; region.reset(2).is_ok());
     let lead = Comparison {
         subject: Subject::Lead(0, 1),
@@ -195,6 +198,7 @@ fn a_lead_allows_every_wait_or_none(rt: HostRuntime) {
         constant: 2,
     };
     assert!(rt; !cut(&region, more, Span::upto(9)).is_some());
+    Ok(())
 }
 
 #[test]

@@ -8,7 +8,6 @@ use rows::tables::TimerRow;
 use run::call::{Entry, Reply};
 use runs::{Answer, Offer, Standing};
 use std::alloc::Global;
-use std::process::Abort;
 use std::test::Fail;
 
 // An entry of a run in stage 1, in the region after a wait of 3 steps and a reset of the first timer.
@@ -25,12 +24,11 @@ fn entry(reply: Reply, standing: Standing) -> Result<Entry, Fail> {
 }
 
 // Whether an open entry with this reply is shown so.
-fn shown(rt: &impl Abort, heap: Global, reply: Reply, words: &str) -> Result<(), Fail> {
+fn shown(heap: Global, reply: Reply, words: &str) -> Result<bool, Fail> {
     let entry = entry(reply, Standing::Open)?;
     let text = format!(in heap; "{}", ShownEntry(&entry))?;
     let expected = format!(in heap; "{words} | stage 1 | whole 2 0.0 1.1 | open")?;
-    assert!(rt; text.as_str() == expected.as_str());
-    Ok(())
+    Ok(text.as_str() == expected.as_str())
 }
 
 const TAKEN: Answer = Answer::Taken {
@@ -42,35 +40,27 @@ const TAKEN: Answer = Answer::Taken {
 #[test]
 fn an_entry_of_each_kind(rt: HostRuntime) -> Result<(), Fail> {
     let heap = rt.alloc();
-    shown(&rt, heap, Reply::Answered(Ok(TAKEN)), "taken 0 4 1")?;
-    shown(
-        &rt,
-        heap,
-        Reply::Answered(Ok(Answer::Met { wait: 5 })),
-        "met 5",
-    )?;
-    shown(&rt, heap, Reply::Answered(Ok(Answer::RanOut)), "ran out")?;
-    shown(
-        &rt,
-        heap,
-        Reply::Answered(Err(Refusal::NoDrawToCome)),
-        "refused 12",
-    )?;
+    assert!(rt; shown(heap, Reply::Answered(Ok(TAKEN)), "taken 0 4 1")?);
+    assert!(rt; shown(heap, Reply::Answered(Ok(Answer::Met { wait: 5 })), "met 5")?);
+    assert!(rt; shown(heap, Reply::Answered(Ok(Answer::RanOut)), "ran out")?);
+    assert!(rt;
+        shown(
+            heap,
+            Reply::Answered(Err(Refusal::NoDrawToCome)),
+            "refused 12"
+        )?
+    );
     let mut list = OfferList::none();
-    shown(&rt, heap, Reply::Offered(list), "offers none")?;
+    assert!(rt; shown(heap, Reply::Offered(list), "offers none")?);
     list.len = 2;
     list.items[1] = Offer {
         change: 3,
         lowest: 8,
         highest: 12,
     };
-    shown(&rt, heap, Reply::Offered(list), "offers 0:0-0 3:8-12")?;
-    shown(
-        &rt,
-        heap,
-        Reply::Stands(Standing::Failed),
-        "standing failed",
-    )
+    assert!(rt; shown(heap, Reply::Offered(list), "offers 0:0-0 3:8-12")?);
+    assert!(rt; shown(heap, Reply::Stands(Standing::Failed), "standing failed")?);
+    Ok(())
 }
 
 #[test]
