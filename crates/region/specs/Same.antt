@@ -56,5 +56,5 @@ records_decide a b = (
     timers = pointwise_decides timers_decide a.timers b.timers
 
 -- so it is an equality of regions, by what they show
-pub regions_alike : IsPartialEquivalence (λ (a b : Region). same_record (viewed a) (viewed b))
-regions_alike = on_per viewed (partial_equiv_from_equiv (decided same_record records_decide))
+pub same_record_is_an_equality : IsPartialEquivalence (λ (a b : Region). same_record (viewed a) (viewed b))
+same_record_is_an_equality = on_per viewed (partial_equiv_from_equiv (decided same_record records_decide))

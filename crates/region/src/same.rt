@@ -1,6 +1,6 @@
 // When two regions are one.
 ghost use Rattle.std.specs.Prelude.{◌≡◌, ℕ, ◌<◌, Decides, slice_index_or};
-ghost use Rattle.region.specs.Same.{regions_alike, same_record};
+ghost use Rattle.region.specs.Same.{same_record_is_an_equality, same_record};
 ghost use Rattle.region.specs.Viewed.{viewed};
 ghost use Rattle.region.specs.Views.{blank};
 ghost use Rattle.theory.specs.Theorems.{EqualRecordsAreOneRegion};
@@ -38,7 +38,7 @@ impl Region {
 impl PartialEq for Region {
     ghost eq = { λ a b. same_record (viewed a) (viewed b) };
 
-    ghost laws = { regions_alike };
+    ghost laws = { same_record_is_an_equality };
 
     // Whether the two are one region.
     fn eq(&self, other: &Region) -> bool

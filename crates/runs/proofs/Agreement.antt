@@ -1,18 +1,13 @@
 -- Regions and ticks tell the same runs.
 use Rattle.std.proofs.Common.{◌≡◌, ℕ, Bool, true, false, cond, leb, List, [], ◌∷◌, Some, None, Ok, Option, refl, ap, ◌∙◌}
 use Rattle.runs.specs.Plans.{Plan, Sound}
-use Rattle.runs.specs.Runs.{inside, top, goal_by, Draws, Run, is_open, is_of_stage, Outturn, drawing, at_goal, making, waits_for, take_call, Scheduler, offers_of, stepping, step_call, shown, Call, Step, Take, Offers, Stands, answered, make}
+use Rattle.runs.specs.Runs.{inside, top, goal_by, Draws, Run, is_open, is_of_stage, Outturn, drawing, at_goal, making, waits_for, take_call, Scheduler, offers_of, stepping, step_call, shown, with_draws, Call, Step, Take, Offers, Stands, answered, make}
 use Rattle.runs.specs.Telling.{DrawsFit, SameState, RegionsAndTicksTellTheSame}
 use Rattle.runs.specs.declared.Answer.TheVariants.{Met}
 use Rattle.runs.specs.declared.Offer.{Offer}
 use Rattle.runs.proofs.Choosing.{step_answers, steps_choose_alike, first_at_once, first_at_once_in_range}
 use Rattle.runs.proofs.Opening.{same_run}
 use Rattle.runs.proofs.Whole.{calls_tell_a_tick_run, granted_calls_tell}
-
--- the run with other draws to come
-abbrev with_draws : Draws → Run → Run
-with_draws draws run =
-    record { stage = run.stage; region = run.region; standing = run.standing; coming = draws }
 
 -- two outturns with one answer, whatever the runs after them
 abbrev SameAnswer : Outturn → Outturn → Type 0

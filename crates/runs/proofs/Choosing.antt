@@ -117,36 +117,23 @@ pub steps_alike : (plan : Plan) (f : Scheduler) (run run' : Run) (a a' : Answer)
 steps_alike plan f run run' a a' k e r x y =
     alike_from plan f run run' e r a a' (subst (StepAnswers plan f run) x (step_answers plan f run k)) (subst (StepAnswers plan f run') y (step_answers plan f run' k))
 
--- the same, with the change too where the goal was met
-choices_alike_from : (plan : Plan) (f : Scheduler) (run run' : Run) → run.stage ≡ run'.stage → run.region ≡ run'.region → (a a' : Answer) → StepAnswers plan f run (Ok a) → StepAnswers plan f run' (Ok a') → ChooseAlike plan f run run' a a'
-choices_alike_from plan f run run' e r = go
-  where
-    c_alike : chosen plan f run ≡ chosen plan f run'
-    c_alike = ap₂ (λ i s. (get_or (offers_at plan i s) (f i s (offers_at plan i s)).0 blank_offer).change) e r
-
-    w_alike : chosen_wait plan f run ≡ chosen_wait plan f run'
-    w_alike = ap₂ (λ i s. (f i s (offers_at plan i s)).1) e r
-
-    g_alike : goal_by_chosen plan f run ≡ goal_by_chosen plan f run'
-    g_alike = ap₂ (λ i s. goal_by plan i s (f i s (offers_at plan i s)).1) e r
-
-    o_alike : length (offers_of plan run) ≡ length (offers_of plan run')
-    o_alike = ap₂ (λ i s. length (offers_at plan i s)) e r
-
-    go : (a a' : Answer) → StepAnswers plan f run (Ok a) → StepAnswers plan f run' (Ok a') → ChooseAlike plan f run run' a a'
-    go (Taken c d n) (Taken c' d' n') x y = (x.2 ∙ (c_alike ∙ sym y.2), x.3 ∙ (w_alike ∙ sym y.3))
-    go (Taken c d n) (Met d') x y = both_ways (goal_by_chosen plan f run) x.1 (g_alike ∙ y.1)
-    go (Taken c d n) RanOut x y = omega (arith, x.0.some_offer, o_alike, ap length y.1)
-    go (Met d) (Taken c' d' n') x y = both_ways (goal_by_chosen plan f run) (g_alike ∙ y.1) x.1
-    go (Met d) (Met d') x y = (c_alike, x.2 ∙ (w_alike ∙ sym y.2))
-    go (Met d) RanOut x y = omega (arith, x.0.some_offer, o_alike, ap length y.1)
-    go RanOut (Taken c' d' n') x y = omega (arith, y.0.some_offer, o_alike, ap length x.1)
-    go RanOut (Met d') x y = omega (arith, y.0.some_offer, o_alike, ap length x.1)
-    go RanOut RanOut x y = tt
+-- and the change too where the goal was met, once the two chose one change
+with_change : (plan : Plan) (f : Scheduler) (run run' : Run) → chosen plan f run ≡ chosen plan f run' → (a a' : Answer) → Alike a a' → ChooseAlike plan f run run' a a'
+with_change plan f run run' e (Taken c d n) (Taken c' d' n') h = h
+with_change plan f run run' e (Taken c d n) (Met d') h = h
+with_change plan f run run' e (Taken c d n) RanOut h = h
+with_change plan f run run' e (Met d) (Taken c' d' n') h = h
+with_change plan f run run' e (Met d) (Met d') h = (e, h)
+with_change plan f run run' e (Met d) RanOut h = h
+with_change plan f run run' e RanOut (Taken c' d' n') h = h
+with_change plan f run run' e RanOut (Met d') h = h
+with_change plan f run run' e RanOut RanOut h = h
 
 pub steps_choose_alike : (plan : Plan) (f : Scheduler) (run run' : Run) (a a' : Answer) → InRange f → run.stage ≡ run'.stage → run.region ≡ run'.region → (step_call plan f run).0 ≡ Ok a → (step_call plan f run').0 ≡ Ok a' → ChooseAlike plan f run run' a a'
 steps_choose_alike plan f run run' a a' k e r x y =
-    choices_alike_from plan f run run' e r a a' (subst (StepAnswers plan f run) x (step_answers plan f run k)) (subst (StepAnswers plan f run') y (step_answers plan f run' k))
+    let one_change : chosen plan f run ≡ chosen plan f run' =
+    ap₂ (λ i s. (get_or (offers_at plan i s) (f i s (offers_at plan i s)).0 blank_offer).change) e r in
+    with_change plan f run run' one_change a a' (steps_alike plan f run run' a a' k e r x y)
 
 -- a scheduler that keeps in range: the first offer, as soon as may be
 abbrev pub first_at_once : Scheduler
