@@ -1,4 +1,3 @@
-mod Admitted
 mod Alone
 mod Counts
 mod Joining

@@ -8,7 +8,7 @@ use Rattle.batch.specs.declared.counting.Progress.{Progress}
 
 -- where the runs of an identifier are, when this is what their source says of the draws to come
 abbrev pub progress_of : {D : Type 0} → (D → Draws) → Progress D → batches.Progress
-progress_of coming p = record { row = p.row; left = p.left; coming = coming p.source }
+progress_of coming p = record { row = p.row; left = p.hand.left; coming = coming p.hand.source }
 
 -- the rows made joined the log, and so much of the allowance and these draws are left
 pub record Entered (made : batches.Made) (log log' : Log BatchRow) (left : ℕ) (coming : Draws) : Type 0 where

@@ -9,7 +9,7 @@ use rows::refusal::Refusal;
 fn from_1_to(most: usize, n: usize) -> bool
     ensures { result ≡ from_1_to most n }
 {
-    1 <= n && n <= most
+    (1..=most).contains(&n)
 }
 
 // Whether every number of a batch is within its limits.

@@ -7,19 +7,25 @@ ghost use Rattle.offers.specs.Known.{plan_of};
 ghost use Rattle.run.specs.Views.{plan_for, view_of};
 ghost use Rattle.schedulers.specs.Meanings.{sampled_by};
 
-use crate::{BatchRow, Limits};
+use crate::BatchRow;
+use crate::job::Job;
 use draws::source::DrawSource;
-use offers::sound_plan::Plan;
 use run::Run;
 use runs::Standing;
 use schedulers::sampled::Sampled;
 
-// The row so far, what is left of the allowance, and the source of the draws.
+// What is left of the allowance, and the source of the draws.
+#[derive(Drop)]
+pub(crate) struct Hand<D> {
+    pub(crate) left: u32,
+    pub(crate) source: D,
+}
+
+// The row of an identifier so far, and what its next run goes on with.
 #[derive(Drop)]
 pub(crate) struct Progress<D> {
     pub(crate) row: BatchRow,
-    pub(crate) left: u32,
-    pub(crate) source: D,
+    pub(crate) hand: Hand<D>,
 }
 
 impl BatchRow {
@@ -29,10 +35,7 @@ impl BatchRow {
     {
         BatchRow {
             identifier,
-            reached: 0,
-            failed: 0,
-            stuck: 0,
-            unfinished: 0,
+            ..BatchRow::default()
         }
     }
 
@@ -66,47 +69,44 @@ fn steps_granted<'p, D: DrawSource>(run: &mut Run<'p, D>, scheduler: &Sampled, m
 
 impl<D: DrawSource> Progress<D> {
     // Makes the run that starts a row of the source, and counts it.
-    fn one_more<'p>(self, plan: Plan<'p>, steps: u32, row: u32) -> Progress<D>
+    fn one_more(self, job: &Job<'_>, row: u32) -> Progress<D>
         requires { runs_in self.row < 10000 }
-        ensures counted { progress_of D.DrawSource.coming result ≡ one_more (plan_of plan.entry) (D.DrawSource.book self.source) steps row (progress_of D.DrawSource.coming self) }
-        ensures book_kept { D.DrawSource.book result.source ≡ D.DrawSource.book self.source }
+        ensures counted { progress_of D.DrawSource.coming result ≡ one_more (plan_of job.now.plan) (D.DrawSource.book self.hand.source) job.now.limits.steps row (progress_of D.DrawSource.coming self) }
+        ensures book_kept { D.DrawSource.book result.hand.source ≡ D.DrawSource.book self.hand.source }
     {
-        let mut source = self.source;
+        let Hand { left, mut source } = self.hand;
         source.start_row(row);
-        let mut run = Run::of_plan(plan, source);
+        let mut run = Run::of_plan(job.plan, source);
         let scheduler = Sampled {
             identifier: self.row.identifier,
         };
-        let granted = steps_granted(&mut run, &scheduler, steps.min(self.left));
+        let most = job.limits.steps.min(left);
+        let granted = steps_granted(&mut run, &scheduler, most);
         let mut counts = self.row;
         counts.count(run.standing());
         Progress {
             row: counts,
-            left: self.left - granted,
-            source: run.close(),
+            hand: Hand {
+                left: left - granted,
+                source: run.close(),
+            },
         }
     }
 }
 
-// Makes all runs of an identifier, with what is left of the allowance.
-pub(crate) fn runs_of<'p, D: DrawSource>(
-    plan: Plan<'p>,
-    source: D,
-    identifier: u32,
-    limits: Limits,
-    left: u32,
-) -> Progress<D>
-    requires { limits.runs ≤ 10000 }
-    ensures counted { progress_of D.DrawSource.coming result ≡ first_runs (plan_of plan.entry) (D.DrawSource.book source) limits.steps limits.runs (none_yet identifier left (D.DrawSource.coming source)) }
-    ensures book_kept { D.DrawSource.book result.source ≡ D.DrawSource.book source }
-{
-    let mut progress = Progress {
-        row: BatchRow::of(identifier),
-        left,
-        source,
-    };
-    for row in 0..limits.runs {
-        progress = progress.one_more(plan, limits.steps, row);
+impl<'p> Job<'p> {
+    // Makes all runs of an identifier, with what is left of the allowance.
+    pub(crate) fn runs_of<D: DrawSource>(&self, identifier: u32, hand: Hand<D>) -> Progress<D>
+        ensures counted { progress_of D.DrawSource.coming result ≡ first_runs (plan_of self.now.plan) (D.DrawSource.book hand.source) self.now.limits.steps self.now.limits.runs (none_yet identifier hand.left (D.DrawSource.coming hand.source)) }
+        ensures book_kept { D.DrawSource.book result.hand.source ≡ D.DrawSource.book hand.source }
+    {
+        let mut progress = Progress {
+            row: BatchRow::of(identifier),
+            hand,
+        };
+        for row in 0..self.limits.runs {
+            progress = progress.one_more(self, row);
+        }
+        progress
     }
-    progress
 }

@@ -5,26 +5,25 @@ ghost use Rattle.std.specs.Prelude.{◌≡◌, true, is_err};
 ghost use Rattle.batch.specs.Batches.{Batched};
 ghost use Rattle.batch.specs.Promised.{ABatchWithoutABindingAllowanceCountsEachRunByItself, EveryRunOfABatchTellsATickRun, TheFourCountsSumToTheRuns};
 ghost use Rattle.offers.specs.Checked.{checked};
-ghost use Rattle.plan.specs.Handed.{held_by};
 ghost use Rattle.runs.specs.Tables.{plan_in};
 
 mod admission;
 mod counting;
 mod entering;
+mod job;
 pub mod ranking;
 #[cfg(test)]
 mod tests;
 pub mod watch;
 
 use crate::admission::admit;
-use crate::entering::enter_rows;
+use crate::job::Job;
 use crate::watch::Watch;
 use draws::source::DrawSource;
 use logs::Log;
 use offers::sound_plan::Plan;
-use plan::handed::Tables;
+use plan::handed::Handed;
 use rows::refusal::Refusal;
-use rows::section::Counts;
 
 // How the runs of one identifier stood.
 #[derive(Clone, Copy, Debug, PartialEq, Eq, Default)]
@@ -45,19 +44,19 @@ pub struct Limits {
 }
 
 // Runs every identifier as often as the limits say, on handed tables and the first rows of a source, and enters a row for each. Where a number is off its limits, or the log has no room for all rows, it is refused before anything is done. The source is given back.
+#[tactic(auto, using(crate::proofs::Sums::the_four_counts_sum, crate::proofs::Alone::counts_each_by_itself))]
 pub fn batch<'p, D: DrawSource, W: Watch>(
-    tables: Tables<'p>,
-    n: Counts,
+    handed: Handed<'p>,
     source: D,
     identifiers: &[u32],
     limits: Limits,
     log: &mut Log<'_, BatchRow>,
     watch: &mut W,
 ) -> (Result<(), Refusal>, D)
-    ensures batched { Batched (plan_in (checked n (held_by tables.entry))) (D.DrawSource.book source) (D.DrawSource.coming source) limits identifiers.now log.old log.new (D.DrawSource.coming result.1) result.0 }
-    ensures the_four_counts_sum_to_the_runs { TheFourCountsSumToTheRuns (plan_in (checked n (held_by tables.entry))) (D.DrawSource.book source) (D.DrawSource.coming source) limits identifiers.now }
-    ensures a_batch_without_a_binding_allowance_counts_each_run_by_itself { ABatchWithoutABindingAllowanceCountsEachRunByItself (plan_in (checked n (held_by tables.entry))) (D.DrawSource.book source) (D.DrawSource.coming source) limits identifiers.now }
-    ensures every_run_of_a_batch_tells_a_tick_run { EveryRunOfABatchTellsATickRun (plan_in (checked n (held_by tables.entry))) (D.DrawSource.book source) }
+    ensures batched { Batched (plan_in (checked handed.entry)) (D.DrawSource.book source) (D.DrawSource.coming source) limits identifiers.now log.old log.new (D.DrawSource.coming result.1) result.0 }
+    ensures the_four_counts_sum_to_the_runs { TheFourCountsSumToTheRuns (plan_in (checked handed.entry)) (D.DrawSource.book source) (D.DrawSource.coming source) limits identifiers.now }
+    ensures a_batch_without_a_binding_allowance_counts_each_run_by_itself { ABatchWithoutABindingAllowanceCountsEachRunByItself (plan_in (checked handed.entry)) (D.DrawSource.book source) (D.DrawSource.coming source) limits identifiers.now }
+    ensures every_run_of_a_batch_tells_a_tick_run { EveryRunOfABatchTellsATickRun (plan_in (checked handed.entry)) (D.DrawSource.book source) }
     ensures book_kept { D.DrawSource.book result.1 ≡ D.DrawSource.book source }
     ensures refused_unchanged { is_err result.0 ≡ true → result.1 ≡ source }
     ensures same_rows { log.new.rows.ghost_name ≡ log.old.rows.ghost_name }
@@ -65,7 +64,9 @@ pub fn batch<'p, D: DrawSource, W: Watch>(
     if let Err(refusal) = admit(identifiers.len(), limits, log.room()) {
         return (Err(refusal), source);
     }
-    let plan = Plan::of_tables(tables, n);
-    let source = enter_rows(plan, source, identifiers, limits, log, watch);
-    (Ok(()), source)
+    let job = Job {
+        plan: Plan::of_tables(handed),
+        limits,
+    };
+    (Ok(()), job.enter_rows(source, identifiers, log, watch))
 }

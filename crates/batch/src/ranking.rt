@@ -8,6 +8,7 @@ ghost use Rattle.std.proofs.Common.{rules};
 use crate::BatchRow;
 use schedulers::foremost::{Ranking, foremost};
 
+// By most and by fewest are two orders, each with its own proof; one type with a switch would prove both at every use.
 struct ByMost;
 
 impl Ranking<BatchRow> for ByMost {

@@ -6,7 +6,7 @@ use draws::congruential::Congruential;
 use draws::source::DrawSource;
 use draws::tape::Tape;
 use logs::Log;
-use plan::handed::Tables;
+use plan::handed::{Handed, Tables};
 use rows::refusal::Refusal;
 use rows::section::Counts;
 use rows::tables::{ChangeRow, ComparisonRow, GoalRow, OutcomeRow, StageRow, TimerRow};
@@ -105,7 +105,7 @@ fn run_batch<D: DrawSource>(
         outcomes: &rows.outcomes,
         goals: &GOALS,
     };
-    let n = Counts {
+    let counts = Counts {
         timers: 2,
         comparisons: 4,
         stages: 4,
@@ -113,7 +113,14 @@ fn run_batch<D: DrawSource>(
         outcomes: 5,
         goals: 1,
     };
-    batch(tables, n, source, identifiers, limits, log, &mut Unwatched)
+    batch(
+        Handed { tables, counts },
+        source,
+        identifiers,
+        limits,
+        log,
+        &mut Unwatched,
+    )
 }
 
 fn row(identifier: u32, reached: u32, failed: u32, stuck: u32, unfinished: u32) -> BatchRow {

@@ -1,4 +1,4 @@
-// Who is told how far a batch is.
+// Who is told how far a batch is. A type and no closure: that a closure may be called would be asked of every caller of a batch.
 use crate::BatchRow;
 
 pub trait Watch {

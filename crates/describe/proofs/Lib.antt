@@ -1,3 +1,2 @@
 pub mod Lowest
-pub mod Signs
 pub mod Told

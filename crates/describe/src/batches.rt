@@ -20,21 +20,19 @@ impl fmt::Display for ShownRow {
     }
 }
 
-// A row by how often it reached the goal, as `most reached: 4 10000 of 10000`.
+// A row by how often it reached the goal, as `4 10000 of 10000`.
 #[derive(Clone, Copy)]
 struct Ranked {
-    words: &'static str,
     row: BatchRow,
     runs: u32,
 }
 
 impl fmt::Display for Ranked {
     fn fmt<W: fmt::Write>(&self, f: &mut fmt::Formatter<W>) -> fmt::Result {
-        let words = self.words;
         let identifier = self.row.identifier;
         let reached = self.row.reached;
         let runs = self.runs;
-        write!(f, "{words}: {identifier} {reached} of {runs}")
+        write!(f, "{identifier} {reached} of {runs}")
     }
 }
 
@@ -49,19 +47,17 @@ impl<'a> fmt::Display for ShownBatch<'a> {
     fn fmt<W: fmt::Write>(&self, f: &mut fmt::Formatter<W>) -> fmt::Result {
         let rows = self.rows;
         let runs = self.runs;
-        write!(f, "identifier reached failed stuck unfinished\n")?;
+        writeln!(f, "identifier reached failed stuck unfinished")?;
         for row in rows {
-            write!(f, "{}\n", ShownRow(*row))?;
+            writeln!(f, "{}", ShownRow(*row))?;
         }
         if let Some(most) = most_reached(rows) {
             let row = rows[most];
-            let words = "most reached";
-            write!(f, "{}\n", Ranked { words, row, runs })?;
+            writeln!(f, "most reached: {}", Ranked { row, runs })?;
         }
         if let Some(fewest) = fewest_reached(rows) {
             let row = rows[fewest];
-            let words = "fewest reached";
-            write!(f, "{}\n", Ranked { words, row, runs })?;
+            writeln!(f, "fewest reached: {}", Ranked { row, runs })?;
         }
         Ok(())
     }

@@ -25,34 +25,18 @@ fn take(change: &str, wait: &str) -> Option<Call<Chooser>> {
     Some(Call::Take { change, wait })
 }
 
-// The call that some words ask for, if they ask for one.
-fn asked(words: &[&str]) -> Option<Call<Chooser>> {
-    match words {
-        ["take", change, wait] => take(change, wait),
-        ["step", "earliest"] => Some(Call::Step(Chooser::Earliest)),
-        ["step", "latest"] => Some(Call::Step(Chooser::Latest)),
-        ["step", "sampled", identifier] => Some(Call::Step(Chooser::Sampled(number(identifier)?))),
-        ["offers"] => Some(Call::Offers),
-        ["standing"] => Some(Call::Standing),
-        _ => None,
-    }
-}
-
-// The most words that a call has.
-const MOST_WORDS: usize = 3;
-
 // The call that a line asks for, if it asks for one. Words stand apart by spaces.
 pub fn call(line: &str) -> Option<Call<Chooser>> {
-    let mut words = [""; MOST_WORDS];
-    let mut count = 0;
-    for word in line.split(' ') {
-        if !word.is_empty() {
-            if count == MOST_WORDS {
-                return None;
-            }
-            words[count] = word;
-            count += 1;
+    let mut words = line.split(' ').filter(|word| !word.is_empty());
+    match (words.next(), words.next(), words.next(), words.next()) {
+        (Some("take"), Some(change), Some(wait), None) => take(change, wait),
+        (Some("step"), Some("earliest"), None, None) => Some(Call::Step(Chooser::Earliest)),
+        (Some("step"), Some("latest"), None, None) => Some(Call::Step(Chooser::Latest)),
+        (Some("step"), Some("sampled"), Some(identifier), None) => {
+            Some(Call::Step(Chooser::Sampled(number(identifier)?)))
         }
+        (Some("offers"), None, None, None) => Some(Call::Offers),
+        (Some("standing"), None, None, None) => Some(Call::Standing),
+        _ => None,
     }
-    asked(&words[0..count])
 }

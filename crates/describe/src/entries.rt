@@ -1,4 +1,5 @@
 // Entries in words, as `taken 0 4 1 | stage 1 | whole 1 0.0 2.0 | reached`.
+// Each type is shown by a wrapper, since a type's own Display stands in its own crate, and the words of a run are this crate's.
 use crate::regions::ShownRegion;
 use offers::list::OfferList;
 use rows::refusal::Refusal;
@@ -52,11 +53,11 @@ struct ShownOffers<'a>(&'a OfferList);
 
 impl<'a> fmt::Display for ShownOffers<'a> {
     fn fmt<W: fmt::Write>(&self, f: &mut fmt::Formatter<W>) -> fmt::Result {
-        if self.0.len == 0 {
+        if self.0.is_empty() {
             return write!(f, "offers none");
         }
         write!(f, "offers")?;
-        for offer in self.0.items.iter().take(self.0.len) {
+        for offer in self.0.as_slice() {
             let Offer {
                 change,
                 lowest,
@@ -74,10 +75,10 @@ struct ShownReply<'a>(&'a Reply);
 
 impl<'a> fmt::Display for ShownReply<'a> {
     fn fmt<W: fmt::Write>(&self, f: &mut fmt::Formatter<W>) -> fmt::Result {
-        match self.0 {
-            Reply::Answered(answer) => write!(f, "{}", ShownAnswer(*answer)),
-            Reply::Offered(list) => write!(f, "{}", ShownOffers(list)),
-            Reply::Stands(standing) => write!(f, "standing {}", ShownStanding(*standing)),
+        match *self.0 {
+            Reply::Answered(answer) => write!(f, "{}", ShownAnswer(answer)),
+            Reply::Offered(list) => write!(f, "{}", ShownOffers(&list)),
+            Reply::Stands(standing) => write!(f, "standing {}", ShownStanding(standing)),
         }
     }
 }
@@ -89,8 +90,8 @@ pub struct ShownEntry<'a>(pub &'a Entry);
 impl<'a> fmt::Display for ShownEntry<'a> {
     fn fmt<W: fmt::Write>(&self, f: &mut fmt::Formatter<W>) -> fmt::Result {
         let reply = ShownReply(&self.0.reply);
-        let stage = self.0.stage;
-        let region = ShownRegion(&self.0.region);
+        let stage = self.0.at.stage;
+        let region = ShownRegion(&self.0.at.region);
         let standing = ShownStanding(self.0.standing);
         write!(f, "{reply} | stage {stage} | {region} | {standing}")
     }

@@ -2,6 +2,7 @@
 ghost use Rattle.std.specs.Prelude.{◌≡◌};
 ghost use Rattle.describe.specs.Histories.{ends_with, refused_in, told_to_the_end};
 
+use crate::faults::ShownRefusal;
 use crate::regions::Intervals;
 use crate::seconds::Seconds;
 use region::Region;
@@ -13,35 +14,24 @@ use std::fmt;
 fn is_refused(entry: &Entry) -> bool
     ensures { result ≡ refused_in entry.now.reply }
 {
-    match entry.reply {
-        Reply::Answered(answer) => answer.is_err(),
-        Reply::Offered(_) => false,
-        Reply::Stands(_) => false,
-    }
+    matches!(entry.reply, Reply::Answered(Err(_)))
 }
 
 // Whether a history ends with this entry: the run is decided, or the call was refused.
 fn is_last(entry: &Entry) -> bool
     ensures { result ≡ ends_with entry.now }
 {
-    match entry.standing {
-        Standing::Open => is_refused(entry),
-        Standing::Reached => true,
-        Standing::Failed => true,
-        Standing::Stuck => true,
-    }
+    !matches!(entry.standing, Standing::Open) || is_refused(entry)
 }
 
 // The entries up to the first that ends the history, with that one.
 fn told(entries: &[Entry]) -> &[Entry]
     ensures { result.now ≡ told_to_the_end entries.now }
 {
-    for i in 0..entries.len() {
-        if is_last(&entries[i]) {
-            return &entries[0..i + 1];
-        }
+    match entries.iter().position(is_last) {
+        Some(last) => &entries[0..last + 1],
+        None => entries,
     }
-    entries
 }
 
 // One step, from the region where it began.
@@ -53,7 +43,7 @@ struct Step<'a> {
 
 impl<'a> fmt::Display for Step<'a> {
     fn fmt<W: fmt::Write>(&self, f: &mut fmt::Formatter<W>) -> fmt::Result {
-        let timers = Intervals(&self.entry.region);
+        let timers = Intervals(&self.entry.at.region);
         match self.entry.reply {
             Reply::Answered(
                 Ok(
@@ -65,7 +55,7 @@ impl<'a> fmt::Display for Step<'a> {
                 ),
             ) => {
                 let wait = Seconds::of_wait(wait, self.before);
-                let stage = self.entry.stage;
+                let stage = self.entry.at.stage;
                 write!(f, "waits {wait}, change {change} with outcome {outcome} ")?;
                 write!(f, "leads to stage {stage}; {timers}")
             }
@@ -74,11 +64,7 @@ impl<'a> fmt::Display for Step<'a> {
                 write!(f, "waits {wait} and meets the goal on the way; {timers}")
             }
             Reply::Answered(Ok(Answer::RanOut)) => write!(f, "nothing more can happen"),
-            Reply::Answered(Err(refusal)) => {
-                let number = refusal.number();
-                let text = refusal.text();
-                write!(f, "refused {number}: {text}")
-            }
+            Reply::Answered(Err(refusal)) => write!(f, "{}", ShownRefusal(refusal)),
             Reply::Offered(_) | Reply::Stands(_) => write!(f, "nothing is done; {timers}"),
         }
     }
@@ -93,7 +79,7 @@ struct Ending<'a> {
 
 impl<'a> fmt::Display for Ending<'a> {
     fn fmt<W: fmt::Write>(&self, f: &mut fmt::Formatter<W>) -> fmt::Result {
-        let stage = self.last.stage;
+        let stage = self.last.at.stage;
         match self.last.standing {
             Standing::Open => write!(f, "still open")?,
             Standing::Reached => write!(f, "the goal is reached")?,
@@ -112,33 +98,19 @@ pub struct History<'a>(pub &'a [Entry]);
 
 impl<'a> fmt::Display for History<'a> {
     fn fmt<W: fmt::Write>(&self, f: &mut fmt::Formatter<W>) -> fmt::Result {
-        let Some((opening, steps)) = told(self.0).split_first() else {
+        let told = told(self.0);
+        let (Some((opening, steps)), Some(last)) = (told.split_first(), told.last()) else {
             return Ok(());
         };
-        let stage = opening.stage;
-        writeln!(
-            f,
-            "opens in stage {stage} with {}",
-            Intervals(&opening.region)
-        )?;
-        let mut last = opening;
-        let mut granted = 0;
-        for (place, entry) in steps.iter().enumerate() {
+        let stage = opening.at.stage;
+        let timers = Intervals(&opening.at.region);
+        writeln!(f, "opens in stage {stage} with {timers}")?;
+        for (place, (before, entry)) in told.iter().zip(steps).enumerate() {
             let number = place + 1;
-            let before = &last.region;
+            let before = &before.at.region;
             writeln!(f, "{number}: {}", Step { before, entry })?;
-            if !is_refused(entry) {
-                granted = number;
-            }
-            last = entry;
         }
-        writeln!(
-            f,
-            "{}",
-            Ending {
-                last,
-                steps: granted
-            }
-        )
+        let steps = steps.iter().filter(|entry| !is_refused(entry)).count();
+        writeln!(f, "{}", Ending { last, steps })
     }
 }

@@ -10,36 +10,29 @@ fn counted(heap: Global, first: u32, last: u32) -> Result<Option<Vec<u32>>, Allo
     if last < first || last - first >= MOST_IDENTIFIERS {
         return Ok(None);
     }
-    let mut identifiers = Vec::new(heap);
-    for i in 0..last - first + 1 {
-        identifiers.push(first + i)?;
-    }
-    Ok(Some(identifiers))
+    Ok(Some((first..=last).collect(heap)?))
 }
 
 // The identifiers of a list with commas.
 fn listed(heap: Global, word: &str) -> Result<Option<Vec<u32>>, AllocError> {
     let mut identifiers = Vec::new(heap);
     for part in word.split(',') {
-        let Some(n) = number(part) else {
-            return Ok(None);
-        };
-        if identifiers.len() >= MOST_IDENTIFIERS as usize {
-            return Ok(None);
+        match number(part) {
+            Some(n) if identifiers.len() < MOST_IDENTIFIERS as usize => identifiers.push(n)?,
+            _ => return Ok(None),
         }
-        identifiers.push(n)?;
     }
     Ok(Some(identifiers))
 }
 
 // The identifiers that a word names, at most 1,000: from the first to the last, or a list with commas.
+// That a word names none is no error: the one error is that memory is out.
 pub fn identifiers(heap: Global, word: &str) -> Result<Option<Vec<u32>>, AllocError> {
-    let mut parts = word.split('.');
-    match (parts.next(), parts.next(), parts.next(), parts.next()) {
-        (Some(first), Some(""), Some(last), None) => match (number(first), number(last)) {
+    match word.split_once("..") {
+        Some((first, last)) => match (number(first), number(last)) {
             (Some(first), Some(last)) => counted(heap, first, last),
             _ => Ok(None),
         },
-        _ => listed(heap, word),
+        None => listed(heap, word),
     }
 }

@@ -2,33 +2,23 @@
 use runs::Offer;
 use std::fmt;
 
-// The first wait of an offer, in seconds: an odd number of steps at two to a second is just past a whole second.
+// A wait of an offer in seconds, at two steps to a second. An odd number of steps lies between two
+// whole seconds: a first wait is just after the lower of them, a last wait just before the higher.
 #[derive(Clone, Copy)]
-struct From(u32);
-
-impl fmt::Display for From {
-    fn fmt<W: fmt::Write>(&self, f: &mut fmt::Formatter<W>) -> fmt::Result {
-        let seconds = self.0 / 2;
-        if self.0 % 2 == 0 {
-            write!(f, "{seconds} s")
-        } else {
-            write!(f, "just after {seconds} s")
-        }
-    }
+enum Bound {
+    First(u32),
+    Last(u32),
 }
 
-// The last wait of an offer, in seconds.
-#[derive(Clone, Copy)]
-struct Until(u32);
-
-impl fmt::Display for Until {
+impl fmt::Display for Bound {
     fn fmt<W: fmt::Write>(&self, f: &mut fmt::Formatter<W>) -> fmt::Result {
-        let seconds = self.0 / 2;
-        if self.0 % 2 == 0 {
-            return write!(f, "{seconds} s");
+        match *self {
+            Bound::First(steps) | Bound::Last(steps) if steps % 2 == 0 => {
+                write!(f, "{} s", steps / 2)
+            }
+            Bound::First(steps) => write!(f, "just after {} s", steps / 2),
+            Bound::Last(steps) => write!(f, "just before {} s", steps / 2 + 1),
         }
-        let next = seconds + 1;
-        write!(f, "just before {next} s")
     }
 }
 
@@ -43,8 +33,8 @@ impl fmt::Display for OfferAtZero {
             lowest,
             highest,
         } = self.0;
-        let from = From(lowest);
-        let until = Until(highest);
+        let from = Bound::First(lowest);
+        let until = Bound::Last(highest);
         write!(
             f,
             "change {change}: from {from} to {until} (waits of {lowest} to {highest} steps)"

@@ -1,4 +1,6 @@
 // A plan in words: its timers, then each stage with its hold, changes and outcomes, then the goal.
+use crate::lists::joined;
+use crate::timers::TimerName;
 use plan::handed::Tables;
 use rows::reading::{Comparison, Mark, Relation, Subject};
 use rows::tables::{ChangeRow, ComparisonRow, OutcomeRow, StageRow, part};
@@ -10,8 +12,8 @@ struct ShownComparison(Comparison);
 impl fmt::Display for ShownComparison {
     fn fmt<W: fmt::Write>(&self, f: &mut fmt::Formatter<W>) -> fmt::Result {
         match self.0.subject {
-            Subject::Timer(i) => write!(f, "x{i}")?,
-            Subject::Lead(i, j) => write!(f, "x{i} - x{j}")?,
+            Subject::Timer(i) => write!(f, "{}", TimerName(i.into()))?,
+            Subject::Lead(i, j) => write!(f, "{} - {}", TimerName(i.into()), TimerName(j.into()))?,
         }
         let sign = match self.0.relation {
             Relation::AtLeast => ">=",
@@ -33,13 +35,8 @@ impl<'a> fmt::Display for ShownList<'a> {
         if self.0.is_empty() {
             return write!(f, "always");
         }
-        for (i, row) in self.0.iter().enumerate() {
-            if i > 0 {
-                write!(f, " and ")?;
-            }
-            write!(f, "{}", ShownComparison(row.reading()))?;
-        }
-        Ok(())
+        let comparisons = self.0.iter().map(|row| ShownComparison(row.reading()));
+        joined(f, comparisons, " and ")
     }
 }
 
@@ -53,24 +50,23 @@ impl fmt::Display for ShownResets {
             return write!(f, "resets nothing");
         }
         write!(f, "resets")?;
-        for i in 0..16u32 {
-            if (self.0 >> i) & 1 == 1 {
-                write!(f, " x{i}")?;
-            }
+        for timer in (0..16usize).filter(|timer| (self.0 >> *timer) & 1 == 1) {
+            write!(f, " {}", TimerName(timer))?;
         }
         Ok(())
     }
 }
 
-// A change with its guard and, a line each, its outcomes with their odds.
+// A row of a plan, and its place among the rows of its kind.
 #[derive(Clone, Copy)]
-struct ShownChange<'a> {
+struct Placed<'a, Row> {
     plan: Tables<'a>,
     place: usize,
-    row: ChangeRow,
+    row: Row,
 }
 
-impl<'a> fmt::Display for ShownChange<'a> {
+// A change with its guard and, a line each, its outcomes with their odds.
+impl<'a> fmt::Display for Placed<'a, ChangeRow> {
     fn fmt<W: fmt::Write>(&self, f: &mut fmt::Formatter<W>) -> fmt::Result {
         let guard = ShownList(part(self.plan.comparisons, self.row.first_guard, self.row.guards));
         let place = self.place;
@@ -80,14 +76,16 @@ impl<'a> fmt::Display for ShownChange<'a> {
             self.row.first_outcome,
             self.row.outcomes,
         );
-        let mut total = 0u64;
-        for o in outcomes {
-            total = total.saturating_add(u64::from(o.weight));
-        }
-        for o in outcomes {
-            let weight = o.weight;
-            let stage = o.stage;
-            let resets = ShownResets(o.resets);
+        let total = outcomes.iter().fold(0u64, |total, outcome| {
+            total.saturating_add(u64::from(outcome.weight))
+        });
+        for outcome in outcomes {
+            let OutcomeRow {
+                weight,
+                stage,
+                resets,
+            } = *outcome;
+            let resets = ShownResets(resets);
             writeln!(f, "    {weight} of {total}: to stage {stage}, {resets}")?;
         }
         Ok(())
@@ -95,14 +93,7 @@ impl<'a> fmt::Display for ShownChange<'a> {
 }
 
 // A stage with its mark and hold and, below it, its changes.
-#[derive(Clone, Copy)]
-struct ShownStage<'a> {
-    plan: Tables<'a>,
-    place: usize,
-    row: StageRow,
-}
-
-impl<'a> fmt::Display for ShownStage<'a> {
+impl<'a> fmt::Display for Placed<'a, StageRow> {
     fn fmt<W: fmt::Write>(&self, f: &mut fmt::Formatter<W>) -> fmt::Result {
         let mark = match self.row.marking() {
             Mark::Unmarked => "no mark",
@@ -113,21 +104,13 @@ impl<'a> fmt::Display for ShownStage<'a> {
         let hold = ShownList(part(self.plan.comparisons, self.row.first_hold, self.row.holds));
         let place = self.place;
         writeln!(f, "stage {place}: {mark}, holds {hold}")?;
+        let plan = self.plan;
         let first = self.row.first_change as usize;
-        for (i, row) in part(self.plan.changes, self.row.first_change, self.row.changes)
-            .iter()
-            .enumerate()
-        {
+        let changes = part(plan.changes, self.row.first_change, self.row.changes);
+        for (i, row) in changes.iter().enumerate() {
             let place = first.saturating_add(i);
-            write!(
-                f,
-                "{}",
-                ShownChange {
-                    plan: self.plan,
-                    place,
-                    row: *row
-                }
-            )?;
+            let row = *row;
+            write!(f, "{}", Placed { plan, place, row })?;
         }
         Ok(())
     }
@@ -139,24 +122,22 @@ pub struct ShownPlan<'a>(pub Tables<'a>);
 
 impl<'a> fmt::Display for ShownPlan<'a> {
     fn fmt<W: fmt::Write>(&self, f: &mut fmt::Formatter<W>) -> fmt::Result {
-        for (i, t) in self.0.timers.iter().enumerate() {
-            let ceiling = t.ceiling;
-            writeln!(f, "timer x{i}: up to {ceiling} s")?;
+        for (i, timer) in self.0.timers.iter().enumerate() {
+            let name = TimerName(i);
+            let ceiling = timer.ceiling;
+            writeln!(f, "timer {name}: up to {ceiling} s")?;
         }
-        for (i, s) in self.0.stages.iter().enumerate() {
-            write!(
-                f,
-                "{}",
-                ShownStage {
-                    plan: self.0,
-                    place: i,
-                    row: *s
-                }
-            )?;
+        for (place, row) in self.0.stages.iter().enumerate() {
+            let stage = Placed {
+                plan: self.0,
+                place,
+                row: *row,
+            };
+            write!(f, "{stage}")?;
         }
-        for g in self.0.goals {
-            let goal = ShownList(part(self.0.comparisons, g.first, g.comparisons));
-            writeln!(f, "goal: {goal}")?;
+        for goal in self.0.goals {
+            let comparisons = ShownList(part(self.0.comparisons, goal.first, goal.comparisons));
+            writeln!(f, "goal: {comparisons}")?;
         }
         Ok(())
     }

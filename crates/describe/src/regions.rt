@@ -1,4 +1,6 @@
 // Regions in words.
+use crate::lists::joined;
+use crate::timers::TimerName;
 use region::Region;
 use region::value::TimerValue;
 use std::fmt;
@@ -17,10 +19,9 @@ impl<'a> fmt::Display for ShownRegion<'a> {
         };
         let classes = self.0.classes();
         write!(f, "{word} {classes}")?;
-        for i in 0..self.0.timers() {
-            if let Some(TimerValue { seconds, rank }) = self.0.timer(i) {
-                write!(f, " {seconds}.{rank}")?;
-            }
+        for value in self.0.values() {
+            let TimerValue { seconds, rank } = *value;
+            write!(f, " {seconds}.{rank}")?;
         }
         Ok(())
     }
@@ -29,19 +30,21 @@ impl<'a> fmt::Display for ShownRegion<'a> {
 // One timer of a region: `x0 = 2` where it stands at 2 seconds, `x1 in 2..3` where it stands between
 // 2 and 3 seconds.
 #[derive(Clone, Copy)]
-struct Interval<'a>(&'a Region, usize);
+struct Interval {
+    is_whole: bool,
+    timer: usize,
+    value: TimerValue,
+}
 
-impl<'a> fmt::Display for Interval<'a> {
+impl fmt::Display for Interval {
     fn fmt<W: fmt::Write>(&self, f: &mut fmt::Formatter<W>) -> fmt::Result {
-        let timer = self.1;
-        let Some(TimerValue { seconds, rank }) = self.0.timer(timer) else {
-            return Ok(());
-        };
-        if self.0.is_whole() && rank == 0 {
-            return write!(f, "x{timer} = {seconds}");
+        let timer = TimerName(self.timer);
+        let TimerValue { seconds, rank } = self.value;
+        if self.is_whole && rank == 0 {
+            return write!(f, "{timer} = {seconds}");
         }
         let next = u32::from(seconds) + 1;
-        write!(f, "x{timer} in {seconds}..{next}")
+        write!(f, "{timer} in {seconds}..{next}")
     }
 }
 
@@ -51,19 +54,14 @@ struct Class<'a>(&'a Region, u8);
 
 impl<'a> fmt::Display for Class<'a> {
     fn fmt<W: fmt::Write>(&self, f: &mut fmt::Formatter<W>) -> fmt::Result {
-        let mut first = true;
-        for i in 0..self.0.timers() {
-            if let Some(TimerValue { rank, .. }) = self.0.timer(i) {
-                if rank == self.1 {
-                    if !first {
-                        write!(f, " = ")?;
-                    }
-                    write!(f, "x{i}")?;
-                    first = false;
-                }
-            }
-        }
-        Ok(())
+        let Class(region, class) = *self;
+        let timers = region
+            .values()
+            .iter()
+            .enumerate()
+            .filter(|(_, value)| value.rank == class)
+            .map(|(timer, _)| TimerName(timer));
+        joined(f, timers, " = ")
     }
 }
 
@@ -75,23 +73,22 @@ pub struct Intervals<'a>(pub &'a Region);
 impl<'a> fmt::Display for Intervals<'a> {
     fn fmt<W: fmt::Write>(&self, f: &mut fmt::Formatter<W>) -> fmt::Result {
         let region = self.0;
-        for i in 0..region.timers() {
-            if i > 0 {
-                write!(f, ", ")?;
-            }
-            write!(f, "{}", Interval(region, i))?;
-        }
-        let first: u8 = if region.is_whole() { 1 } else { 0 };
+        let is_whole = region.is_whole();
+        let intervals = region.values().iter().enumerate().map(|(timer, value)| Interval {
+            is_whole,
+            timer,
+            value: *value,
+        });
+        joined(f, intervals, ", ")?;
+        let first = u8::from(is_whole);
         if u32::from(first) + 1 >= u32::from(region.classes()) {
             return Ok(());
         }
         write!(f, "; fractions ")?;
-        for rank in first..region.classes() {
-            if rank > first {
-                write!(f, " < ")?;
-            }
-            write!(f, "{}", Class(region, rank))?;
-        }
-        Ok(())
+        joined(
+            f,
+            (first..region.classes()).map(|rank| Class(region, rank)),
+            " < ",
+        )
     }
 }

@@ -1,7 +1,9 @@
 -- The turns of the loops over the rows of outcomes.
-use Rattle.std.proofs.Common.{◌≡◌, ℕ, suc, ◌+◌, ◌-◌, ◌^◌, ◌<◌, ◌≤◌, true, false, ◌&&◌, leb, ◌⊎◌, List, [], length, get_or, drop, Some, None, ap, ◌∙◌, inl, inr, arith}
+use Rattle.std.proofs.Common.{◌≡◌, ℕ, suc, ◌+◌, ◌-◌, ◌^◌, ◌<◌, ◌≤◌, ltb, List, length, get_or, drop, Option, Some, None, ap, ◌∙◌, arith}
 use Rattle.std.proofs.lemmas.List.{at_drop_all, get_or-map, length-map}
-use Rattle.std.proofs.lemmas.Bool.{and_from, and_left, and_parts, and_right, cases_Bool, cond-true, cond-false, le-leb, leb-true, lt-leb}
+use Rattle.std.proofs.lemmas.Bool.Decides.{nat_tests}
+use Rattle.std.specs.Bool.{then_some}
+use Rattle.std.specs.Prelude.{MatchOption}
 use Rattle.rows.specs.declared.tables.OutcomeRow.{OutcomeRow}
 use Rattle.rows.specs.Plans.{PlanRows}
 use Rattle.rows.specs.Verdicts.{no_outcome}
@@ -11,7 +13,7 @@ use Rattle.runs.specs.Tables.{outcome_of_row}
 use Rattle.runs.specs.Ticks.{ticket}
 use Rattle.runs.proofs.Loops.{weights_more, weights_all, picked_at, picked_after}
 use Rattle.runs.proofs.Picking.{picked_nil, picked_picks, ticket_fits}
-use Rattle.draws.specs.Tickets.{outcomes_in, allowed}
+use Rattle.draws.specs.Tickets.{outcomes_in, allowed, picked_with, pick_by}
 
 pub in_view : (p : PlanRows) (rows : List OutcomeRow) (i : ℕ) → i < length rows → i < length (outcomes_in p rows)
 in_view p rows i h = omega (arith, length-map rows (outcome_of_row p))
@@ -43,38 +45,25 @@ pub picked_end : (p : PlanRows) (rows : List OutcomeRow) (i t : ℕ) → length 
 picked_end p rows i t h =
     at_drop_all (λ os. picked os t) (outcomes_in p rows) i (omega (arith, length-map rows (outcome_of_row p))) ∙ picked_nil t
 
--- when a sum of weights is allowed
+-- a sum that is not past 65535 is allowed exactly if it is not 0
+pub sum_of_some : (all : ℕ) → all ≤ 65535 → then_some (ltb 0 all) all ≡ allowed all
+sum_of_some all few = grind (arith, nat_tests)
+
+pub too_heavy : (all : ℕ) → 65535 < all → None ≡ allowed all
+too_heavy all many = grind (arith, nat_tests)
+
 pub allowed_sum : (all : ℕ) → 1 ≤ all → all ≤ 65535 → allowed all ≡ Some all
-allowed_sum all some few =
-    cond-true (leb 1 all && leb all 65535) (Some all) None (and_from (leb 1 all) (leb all 65535) (le-leb 1 all some) (le-leb all 65535 few))
-
-pub no_weight : (all : ℕ) → all ≡ 0 → allowed all ≡ None
-no_weight all none =
-    cond-false (leb 1 all && leb all 65535) (Some all) None (and_left (leb 1 all) (leb all 65535) (lt-leb 1 all (omega arith)))
-
-pub too_heavy : (all : ℕ) → 65535 < all → allowed all ≡ None
-too_heavy all many =
-    cond-false (leb 1 all && leb all 65535) (Some all) None (and_right (leb 1 all) (leb all 65535) (lt-leb all 65535 many))
+allowed_sum all some few = grind (arith, nat_tests)
 
 -- an allowed sum is the sum, and there is some weight
 pub sum_allowed : (all sum : ℕ) → Some sum ≡ allowed all → (all ≡ sum) × (1 ≤ all)
-sum_allowed all sum e = go (cases_Bool (leb 1 all && leb all 65535))
-  where
-    go : ((leb 1 all && leb all 65535) ≡ true) ⊎ ((leb 1 all && leb all 65535) ≡ false) → (all ≡ sum) × (1 ≤ all)
-    go (inl h) =
-        let s : allowed all ≡ Some all = cond-true (leb 1 all && leb all 65535) (Some all) None h in
-        (cc, leb-true 1 all (and_parts (leb 1 all) (leb all 65535) h).0)
-    go (inr h) =
-        let s : allowed all ≡ None = cond-false (leb 1 all && leb all 65535) (Some all) None h in
-        absurd (let z : ◌≡◌ {A = ℕ} 0 1 = cc in omega arith)
+sum_allowed all sum e = grind (arith, nat_tests)
 
--- a plan with no rows
-abbrev no_rows : PlanRows
-no_rows = record { timers = []; comparisons = []; stages = []; changes = []; outcomes = []; goals = [] }
-
--- what is picked by a draw, where the sum is allowed, is an outcome
-pub picked_within : (rows : List OutcomeRow) (g sum place : ℕ) → g < 2 ^ 32 → ((p : PlanRows) → Some sum ≡ allowed (weights (outcomes_in p rows))) → ((p : PlanRows) → place ≡ picked (outcomes_in p rows) (ticket g sum)) → place < length rows
-picked_within rows g sum place h e k =
-    let s : (weights (outcomes_in no_rows rows) ≡ sum) × (1 ≤ weights (outcomes_in no_rows rows)) = sum_allowed (weights (outcomes_in no_rows rows)) sum (e no_rows) in
-    let below : ticket g sum < weights (outcomes_in no_rows rows) = omega (arith, ticket_fits g sum h (omega arith)) in
-    omega (arith, (picked_picks (outcomes_in no_rows rows) (ticket g sum) below).an_outcome, k no_rows, length-map rows (outcome_of_row no_rows))
+-- where the sum is allowed, a draw picks an outcome: the place that was found, if one was
+pub picked_whole : (p : PlanRows) (rows : List OutcomeRow) (g sum t : ℕ) (found : Option ℕ) → g < 2 ^ 32 → Some sum ≡ allowed (weights (outcomes_in p rows)) → t ≡ ticket g sum → MatchOption found (picked (outcomes_in p rows) t ≡ length rows) (λ n. n ≡ picked (outcomes_in p rows) t) → found ≡ pick_by (outcomes_in p rows) g
+picked_whole p rows g sum t (Some n) h e is k =
+    ap Some (k ∙ ap (picked (outcomes_in p rows)) is) ∙ ap (picked_with (outcomes_in p rows) g) e
+picked_whole p rows g sum t None h e is k =
+    let s : (weights (outcomes_in p rows) ≡ sum) × (1 ≤ weights (outcomes_in p rows)) = sum_allowed (weights (outcomes_in p rows)) sum e in
+    let below : t < weights (outcomes_in p rows) = omega (arith, ticket_fits g sum h (omega arith)) in
+    absurd (omega (arith, (picked_picks (outcomes_in p rows) t below).an_outcome, length-map rows (outcome_of_row p)))

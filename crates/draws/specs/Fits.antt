@@ -1,16 +1,19 @@
 -- Every draw of computed and of recorded rows has 32 bits.
-use Rattle.std.specs.Prelude.{◌≡◌, ℕ, zero, suc, ◌+◌, ◌^◌, ◌<◌, ◌≤◌, ◌⊎◌, List, [], ◌∷◌, take, drop, slice_index}
+use Rattle.std.specs.Prelude.{◌≡◌, ℕ, zero, suc, ◌+◌, ◌*◌, ◌^◌, ◌<◌, ◌≤◌, ◌⊎◌, List, [], ◌∷◌, take, drop, slice_index}
 use Rattle.std.proofs.Common.{inl, inr, arith}
 use Rattle.std.proofs.lemmas.List.{get_or-drop, get_or_past, get_or-take, length-take}
 use Rattle.std.proofs.lemmas.Bool.{cases_lt}
 use Rattle.runs.specs.Telling.{DrawsFit}
 use Rattle.draws.specs.Computed.{after, iterated, endless}
-use Rattle.draws.specs.Recorded.{listed, Fit}
+use Rattle.draws.specs.Recorded.{listed, kept, recorded, Fit}
 
 -- every state but a first has 32 bits
-pub iterated_fits : (k h : ℕ) → iterated (suc k) h < 2 ^ 32
+pub after_fits : (h : ℕ) → after h < 2 ^ 32
 unfolding after
-iterated_fits zero h = omega arith
+after_fits h = omega arith
+
+pub iterated_fits : (k h : ℕ) → iterated (suc k) h < 2 ^ 32
+iterated_fits zero h = after_fits h
 iterated_fits (suc k) h = iterated_fits k (after h)
 
 -- so has every draw to come at a state
@@ -30,3 +33,7 @@ part_fits n first xs f k = go (cases_lt k n)
     go : (k < n) ⊎ (n ≤ k) → slice_index (take n (drop first xs)) k < 2 ^ 32
     go (inl l) = omega (arith, get_or-take n (drop first xs) k 0 l, get_or-drop first xs k 0, f (first + k))
     go (inr l) = omega (arith, get_or_past (take n (drop first xs)) k 0 (omega (arith, length-take n (drop first xs))))
+
+-- so has every draw of the rows of such a list
+pub recorded_fit : (n : ℕ) (xs : List ℕ) → Fit xs → (row : ℕ) → DrawsFit (recorded xs n row)
+recorded_fit n xs f row = listed_fit (take (kept n) (drop (row * kept n) xs)) (part_fits (kept n) (row * kept n) xs f)

@@ -3,4 +3,5 @@ pub mod Computed
 pub mod Recorded
 pub mod Fits
 pub mod Taped
+pub mod Either
 pub mod Tickets

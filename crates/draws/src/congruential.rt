@@ -13,8 +13,9 @@ pub struct Congruential {
     state: u32,
 }
 
-// The state after this one.
-fn next(state: u32) -> u32
+// The state after this one: the next number of the computed sequence.
+#[tactic(auto, unfolding(crate::specs::Computed::after))]
+pub fn next(state: u32) -> u32
     ensures { result ≡ after state }
 {
     state.wrapping_mul(1664525).wrapping_add(1013904223)

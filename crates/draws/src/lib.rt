@@ -2,6 +2,7 @@
 #![tactic(auto)]
 
 pub mod congruential;
+pub mod either;
 pub mod source;
 pub mod tape;
 pub mod ticket;

@@ -4,7 +4,7 @@ ghost use Rattle.draws.specs.Recorded.{Fit};
 pub mod reading;
 
 // Recorded numbers in rows of one length, the last row perhaps short. Where the length is not from 1 to 10,000 every row is empty.
-#[derive(Clone, Copy)]
+#[derive(Clone, Copy, Debug, PartialEq, Eq)]
 pub struct Tape<'a> {
     numbers: &'a [u32],
     row_length: usize,

@@ -1,5 +1,5 @@
 // Which outcome a draw picks.
-ghost use Rattle.std.specs.Prelude.{◌≡◌, ◌<◌, ◌≤◌, length, IfSome, Some};
+ghost use Rattle.std.specs.Prelude.{◌≡◌, ◌<◌, ◌≤◌, length, IfSome, MatchOption, Some};
 ghost use Rattle.draws.specs.Tickets.{EveryDrawPicksOneOutcome, EveryOutcomeHasItsOwnStretch, EveryOutcomeHasItsShareOfDraws, allowed, outcomes_in, pick_by};
 ghost use Rattle.rows.specs.Plans.{PlanRows};
 ghost use Rattle.runs.specs.Plans.{weights as weights_in};
@@ -9,39 +9,37 @@ ghost use Rattle.runs.specs.Ticks.{ticket as ticket_of};
 use rows::tables::OutcomeRow;
 
 // The ticket of a draw: the draw, out of 2^32, as a part of all the weights.
-pub fn ticket(draw: u32, weights: u32) -> u32
+pub fn ticket(draw: u32, weights: u64) -> u64
     ensures value { result ≡ ticket_of draw weights }
     ensures below { 1 ≤ weights → result < weights }
 {
-    (draw as u64 * weights as u64 / (1 << 32)) as u32
+    (draw as u128 * weights as u128 / (1 << 32)) as u64
 }
 
 // The sum of the weights, if it is from 1 to 65535.
-fn total(outcomes: &[OutcomeRow]) -> Option<u32>
+fn total(outcomes: &[OutcomeRow]) -> Option<u16>
     ensures { (p : PlanRows) → result ≡ allowed (weights_in (outcomes_in p outcomes.now)) }
 {
-    let mut sum: u32 = 0;
+    let mut sum: u16 = 0;
     for outcome in outcomes {
-        sum += outcome.weight as u32;
-        if sum > 65535 {
-            return None;
-        }
+        sum = sum.checked_add(outcome.weight)?;
     }
-    if sum == 0 { None } else { Some(sum) }
+    (sum > 0).then_some(sum)
 }
 
-// The place of the first outcome whose weights so far, its own with them, exceed the ticket. Where no weights do, it is past the last.
-fn place_of(outcomes: &[OutcomeRow], ticket: u32) -> usize
-    ensures { (p : PlanRows) → result ≡ picked (outcomes_in p outcomes.now) ticket }
+// The place of the first outcome whose weights so far, its own with them, exceed the ticket, if some do.
+fn place_of(outcomes: &[OutcomeRow], ticket: u64) -> Option<usize>
+    ensures place { (p : PlanRows) → MatchOption result (picked (outcomes_in p outcomes.now) ticket ≡ length outcomes.now) (λ n. n ≡ picked (outcomes_in p outcomes.now) ticket) }
+    ensures an_outcome { IfSome result (λ n. n < length outcomes.now) }
 {
     let mut left = ticket;
-    for (i, outcome) in outcomes.iter().enumerate() {
-        if outcome.weight as u32 > left {
-            return i;
+    for (place, outcome) in outcomes.iter().enumerate() {
+        if outcome.weight as u64 > left {
+            return Some(place);
         }
-        left -= outcome.weight as u32;
+        left -= outcome.weight as u64;
     }
-    outcomes.len()
+    None
 }
 
 // The place of the outcome that a draw picks. Where the weights do not sum to a number from 1 to 65535, as where there is no outcome, it picks none.
@@ -53,10 +51,8 @@ pub fn pick(outcomes: &[OutcomeRow], draw: u32) -> Option<usize>
     ensures picked { (p : PlanRows) → 1 ≤ weights_in (outcomes_in p outcomes.now) → weights_in (outcomes_in p outcomes.now) ≤ 65535 → result ≡ Some (picked (outcomes_in p outcomes.now) (ticket_of draw (weights_in (outcomes_in p outcomes.now)))) }
     ensures an_outcome { IfSome result (λ n. n < length outcomes.now) }
 {
-    match total(outcomes) {
-        None => None,
-        Some(weights) => Some(place_of(outcomes, ticket(draw, weights))),
-    }
+    let weights = total(outcomes)?;
+    place_of(outcomes, ticket(draw, u64::from(weights)))
 }
 
 #[cfg(test)]

@@ -1,45 +1,42 @@
 // Plan files, the tables that they are read into, and other files.
-ghost use Rattle.std.specs.Prelude.{◌≡◌, take};
-
 use anyhow::anyhow;
 use describe::faults::Refused;
-use plan::handed::Tables;
-use reader::read::{TablesMut, read};
+use plan::handed::{Handed, Tables};
+use plan::records::Records;
+use reader::owned::OwnedTables;
 use rows::fault::Fault;
 use rows::section::Counts;
-use rows::tables::{ChangeRow, ComparisonRow, GoalRow, OutcomeRow, StageRow, TimerRow};
 use std::alloc::{AllocError, Global};
 use std::fs;
 
-// Tables with room for the largest plan.
+// How many rows of each kind the largest plan has.
+const LARGEST: Counts = Counts {
+    timers: 16,
+    comparisons: 4096,
+    stages: 256,
+    changes: 1024,
+    outcomes: 4096,
+    goals: 1,
+};
+
+// The tables of a plan file.
 #[derive(Drop)]
 pub struct PlanFile {
-    timers: Vec<TimerRow>,
-    comparisons: Vec<ComparisonRow>,
-    stages: Vec<StageRow>,
-    changes: Vec<ChangeRow>,
-    outcomes: Vec<OutcomeRow>,
-    goals: Vec<GoalRow>,
+    rows: OwnedTables,
 }
 
 impl PlanFile {
-    // Tables with default rows.
+    // Tables with default rows, as many as the largest plan has.
     pub fn new(heap: Global) -> Result<PlanFile, AllocError> {
         Ok(PlanFile {
-            timers: vec![in heap; TimerRow::default(); 16]?,
-            comparisons: vec![in heap; ComparisonRow::default(); 4096]?,
-            stages: vec![in heap; StageRow::default(); 256]?,
-            changes: vec![in heap; ChangeRow::default(); 1024]?,
-            outcomes: vec![in heap; OutcomeRow::default(); 4096]?,
-            goals: vec![in heap; GoalRow::default(); 1]?,
+            rows: OwnedTables::of(heap, LARGEST)?,
         })
     }
 
-    // Reads a plan file into tables of its own. The rule that a refused one breaks is printed.
-    pub fn open(rt: &HostRuntime, path: &str) -> anyhow::Result<(PlanFile, Counts)> {
-        let mut file = PlanFile::new(rt.alloc())?;
-        match file.load(rt, path)? {
-            Ok(n) => Ok((file, n)),
+    // Reads a plan file. The rule that a refused one breaks is printed.
+    pub fn open(rt: &HostRuntime, path: &str) -> anyhow::Result<PlanFile> {
+        match PlanFile::load(rt, path)? {
+            Ok(file) => Ok(file),
             Err(fault) => {
                 println!(rt; "{}", Refused(fault))?;
                 Err(anyhow!("the plan is refused"))
@@ -47,33 +44,34 @@ impl PlanFile {
         }
     }
 
-    // Reads a plan file into the tables.
-    pub fn load(&mut self, rt: &HostRuntime, path: &str) -> anyhow::Result<Result<Counts, Fault>> {
+    // Reads a plan file, or answers the rule that it breaks.
+    pub fn load(rt: &HostRuntime, path: &str) -> anyhow::Result<Result<PlanFile, Fault>> {
         let bytes = match fs::read(rt, path) {
             Ok(bytes) => bytes,
-            Err(e) => return Err(anyhow!(format!(in rt.alloc(); "cannot read {path}: {e}")?)),
+            Err(e) => return Err(anyhow!("cannot read {path}: {e}")),
         };
-        let tables = TablesMut {
-            timers: &mut self.timers,
-            comparisons: &mut self.comparisons,
-            stages: &mut self.stages,
-            changes: &mut self.changes,
-            outcomes: &mut self.outcomes,
-            goals: &mut self.goals,
-        };
-        Ok(read(&bytes, tables))
+        let mut file = PlanFile::new(rt.alloc())?;
+        match file.rows.read(&bytes) {
+            Ok(counts) => {
+                file.rows.cut(&counts);
+                Ok(Ok(file))
+            }
+            Err(fault) => Ok(Err(fault)),
+        }
     }
 
-    // The rows of the plan that was read.
-    pub fn tables(&self, n: &Counts) -> Tables<'_> {
-        Tables {
-            timers: front(&self.timers, n.timers),
-            comparisons: front(&self.comparisons, n.comparisons),
-            stages: front(&self.stages, n.stages),
-            changes: front(&self.changes, n.changes),
-            outcomes: front(&self.outcomes, n.outcomes),
-            goals: front(&self.goals, n.goals),
+    // The rows of the plan, and how many of each there are.
+    pub fn handed(&self) -> Handed<'_> {
+        let tables = self.tables();
+        Handed {
+            tables,
+            counts: tables.counts(),
         }
+    }
+
+    // The rows of the plan.
+    pub fn tables(&self) -> Tables<'_> {
+        self.rows.view()
     }
 }
 
@@ -81,13 +79,6 @@ impl PlanFile {
 pub fn text_of(rt: &HostRuntime, path: &str) -> anyhow::Result<String> {
     match fs::read_to_string(rt, path) {
         Ok(text) => Ok(text),
-        Err(e) => Err(anyhow!(format!(in rt.alloc(); "cannot read {path}: {e}")?)),
+        Err(e) => Err(anyhow!("cannot read {path}: {e}")),
     }
-}
-
-// The first n rows, as far as there are any.
-fn front<T>(rows: &[T], n: usize) -> &[T]
-    ensures { result.now ≡ take n rows.now }
-{
-    &rows[0..n.min(rows.len())]
 }

@@ -5,8 +5,7 @@ ghost use Rattle.run.specs.declared.call.Call.TheVariants.{Standing, Step};
 use crate::files::PlanFile;
 use crate::options::{Command, Options, file_name};
 use crate::replay::entries_of;
-use crate::sources::Source;
-use anyhow::anyhow;
+use anyhow::Context;
 use describe::history::History;
 use run::call::Call;
 use schedulers::chooser::Chooser;
@@ -18,22 +17,18 @@ fn steps_by(heap: Global, scheduler: Chooser, steps: u32) -> Result<Vec<Call<Cho
     ensures { IfOk result (λ calls. calls.items ≡ Standing ∷ replicate steps (Step scheduler)) }
 {
     let mut calls = vec![in heap; Call::Standing]?;
-    for _made in 0..steps {
-        calls.push(Call::Step(scheduler))?;
-    }
+    calls.resize(1 + steps as usize, Call::Step(scheduler))?;
     Ok(calls)
 }
 
 // Runs a plan and prints what happens, a line for each step.
 pub fn run_plan(rt: &HostRuntime, mut args: Args) -> anyhow::Result<()> {
-    let Some(plan) = file_name(&mut args) else {
-        return Err(anyhow!("run takes a plan file: junction run PLAN"));
-    };
+    let plan = file_name(&mut args).context("run takes a plan file: junction run PLAN")?;
     let options = Options::read(rt.alloc(), Command::Run, args)?;
-    let (file, n) = PlanFile::open(rt, plan.as_str())?;
-    let source = Source::load(rt, &options.draws)?;
-    let calls = steps_by(rt.alloc(), options.scheduler, options.steps)?;
-    let entries = entries_of(rt, file.tables(&n), n, &source, &calls)?;
+    let file = PlanFile::open(rt, plan.as_str())?;
+    let draws = options.draws.load(rt)?;
+    let calls = steps_by(rt.alloc(), options.scheduler, options.limits.steps)?;
+    let entries = entries_of(rt, file.handed(), draws.source(), &calls)?;
     print!(rt; "{}", History(&entries))?;
     Ok(())
 }

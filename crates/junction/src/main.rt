@@ -11,7 +11,7 @@ mod replay;
 mod sources;
 mod walk;
 
-use anyhow::anyhow;
+use anyhow::{Context, anyhow};
 use std::env;
 use std::process::ExitCode;
 
@@ -61,23 +61,30 @@ fn run(rt: &HostRuntime) -> anyhow::Result<()> {
         rt.print(USAGE)?;
         return Ok(());
     };
+    // A match and no table of commands, since they differ in the arguments they take.
     match command.as_str() {
         "help" => {
             rt.print(USAGE)?;
             Ok(())
         }
-        "check" => match args.next() {
-            Some(path) => commands::check(rt, path.as_str()),
-            None => Err(anyhow!("check takes a plan file: junction check FILE")),
-        },
-        "possible" => match args.next() {
-            Some(path) => possible::possible(rt, path.as_str()),
-            None => Err(anyhow!("possible takes a plan file: junction possible FILE")),
-        },
-        "regions" => match args.next() {
-            Some(path) => walk::regions(rt, path.as_str(), &mut args),
-            None => Err(anyhow!("regions takes a plan file: junction regions FILE MOVE..")),
-        },
+        "check" => {
+            let path = args
+                .next()
+                .context("check takes a plan file: junction check FILE")?;
+            commands::check(rt, path.as_str())
+        }
+        "possible" => {
+            let path = args
+                .next()
+                .context("possible takes a plan file: junction possible FILE")?;
+            possible::possible(rt, path.as_str())
+        }
+        "regions" => {
+            let path = args
+                .next()
+                .context("regions takes a plan file: junction regions FILE MOVE..")?;
+            walk::regions(rt, path.as_str(), &mut args)
+        }
         "batch" => batches::run_batch(rt, args),
         "replay" => replay::replay_file(rt, args),
         "run" => history::run_plan(rt, args),

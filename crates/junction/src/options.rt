@@ -2,13 +2,15 @@
 ghost use Rattle.std.specs.Prelude.{◌≤◌, IfOk};
 
 use crate::sources::Draws;
-use anyhow::anyhow;
+use anyhow::{Context, anyhow};
+use batch::Limits;
 use describe::calls::named_scheduler;
 use describe::identifiers::identifiers;
 use describe::numbers::number;
 use schedulers::chooser::Chooser;
 use std::alloc::Global;
 use std::env::Args;
+use std::fmt;
 
 // The commands that have options.
 #[derive(Clone, Copy)]
@@ -18,28 +20,29 @@ pub enum Command {
     Run,
 }
 
-impl Command {
-    // Its name on the command line.
-    fn name(self) -> &'static str {
-        match self {
+// A command by its name on the command line.
+impl fmt::Display for Command {
+    fn fmt<W: fmt::Write>(&self, f: &mut fmt::Formatter<W>) -> fmt::Result {
+        f.write_str(match *self {
             Command::Batch => "batch",
             Command::Replay => "replay",
             Command::Run => "run",
-        }
+        })
     }
+}
 
+impl Command {
     // How many steps a run has at the most where it is not said.
     fn steps(self) -> u32 {
         match self {
             Command::Batch => 1_000,
-            Command::Replay => 100,
-            Command::Run => 100,
+            Command::Replay | Command::Run => 100,
         }
     }
 }
 
 // The options as they are given.
-#[derive(Drop)]
+#[derive(Default, Drop)]
 struct Given {
     seed: Option<u32>,
     tape: Option<String>,
@@ -54,166 +57,104 @@ struct Given {
 // What a command goes by.
 #[derive(Drop)]
 pub struct Options {
-    pub draws: Draws,
+    pub draws: Draws<String>,
     pub scheduler: Chooser,
-    pub steps: u32,
     pub identifiers: Vec<u32>,
-    pub runs: u32,
-    pub allowance: u32,
+    pub limits: Limits,
 }
 
 // The next argument, if it is the name of a file.
 pub fn file_name(args: &mut Args) -> Option<String> {
-    let word = args.next()?;
-    if word.as_str().starts_with("--") {
-        return None;
-    }
-    Some(word)
+    args.next().filter(|word| !word.as_str().starts_with("--"))
 }
 
-// The value of an option.
-fn value_of(heap: Global, name: &str, value: Option<String>) -> anyhow::Result<String> {
-    match value {
-        Some(value) => Ok(value),
-        None => Err(anyhow!(format!(in heap; "{name} takes a value")?)),
-    }
-}
-
-// The value of an option that takes a number within limits.
-fn number_of(
+// An option of a command as it is asked for: its name, and the word after it.
+#[derive(Clone, Copy)]
+struct Asked<'a> {
     heap: Global,
-    name: &str,
-    value: Option<String>,
-    least: u32,
-    most: u32,
-) -> anyhow::Result<u32>
-    ensures { IfOk result (λ n. (least ≤ n) × (n ≤ most)) }
-{
-    let value = value_of(heap, name, value)?;
-    match number(value.as_str()) {
-        Some(n) if least <= n && n <= most => Ok(n),
-        _ => Err(anyhow!(format!(in heap;
+    command: Command,
+    name: &'a str,
+    value: Option<&'a str>,
+}
+
+impl<'a> Asked<'a> {
+    // Its value.
+    fn value(self) -> anyhow::Result<&'a str> {
+        let name = self.name;
+        self.value.context(format_args!("{name} takes a value"))
+    }
+
+    // Its value, a text.
+    fn text(self) -> anyhow::Result<String> {
+        Ok(String::from_str(self.heap, self.value()?)?)
+    }
+
+    // Its value, a number within limits.
+    fn number(self, least: u32, most: u32) -> anyhow::Result<u32>
+        ensures { IfOk result (λ n. (least ≤ n) × (n ≤ most)) }
+    {
+        let name = self.name;
+        let value = self.value()?;
+        number(value).filter(|n| least <= *n && *n <= most).context(format_args!(
             "{name} takes a number from {least} to {most}, not {value}"
-        )?)),
+        ))
     }
-}
 
-// The value of an option that takes a scheduler.
-fn scheduler_of(heap: Global, name: &str, value: Option<String>) -> anyhow::Result<Chooser> {
-    let value = value_of(heap, name, value)?;
-    match named_scheduler(value.as_str()) {
-        Some(scheduler) => Ok(scheduler),
-        None => Err(anyhow!(format!(in heap;
+    // Its value, a scheduler.
+    fn scheduler(self) -> anyhow::Result<Chooser> {
+        let name = self.name;
+        let value = self.value()?;
+        named_scheduler(value).context(format_args!(
             "{name} takes earliest, latest or an identifier, not {value}"
-        )?)),
+        ))
     }
-}
 
-// The value of an option that takes identifiers.
-fn identifiers_of(heap: Global, name: &str, value: Option<String>) -> anyhow::Result<Vec<u32>> {
-    let value = value_of(heap, name, value)?;
-    match identifiers(heap, value.as_str())? {
-        Some(identifiers) => Ok(identifiers),
-        None => Err(anyhow!(format!(in heap;
+    // Its value, a list of identifiers.
+    fn identifiers(self) -> anyhow::Result<Vec<u32>> {
+        let name = self.name;
+        let value = self.value()?;
+        identifiers(self.heap, value)?.context(format_args!(
             "{name} takes FIRST..LAST or a list as 3,5,8, at most 1000 of them, not {value}"
-        )?)),
+        ))
     }
-}
 
-// Keeps what an option says. It may say it once.
-fn keep<T: Drop>(heap: Global, name: &str, place: &mut Option<T>, value: T) -> anyhow::Result<()> {
-    if place.is_some() {
-        return Err(anyhow!(format!(in heap; "{name} is given twice")?));
+    // Keeps what it says. It may say it once.
+    fn keep<T: Drop>(self, place: &mut Option<T>, value: T) -> anyhow::Result<()> {
+        let name = self.name;
+        if place.is_some() {
+            return Err(anyhow!("{name} is given twice"));
+        }
+        *place = Some(value);
+        Ok(())
     }
-    *place = Some(value);
-    Ok(())
-}
 
-// What is told of an option that a command does not have.
-fn unknown(heap: Global, command: Command, name: &str) -> anyhow::Result<anyhow::Error> {
-    let word = command.name();
-    Ok(anyhow!(format!(in heap; "{word} has no option {name}: 'junction help' lists them")?))
+    // What is told of it where the command does not have it.
+    fn unknown(self) -> anyhow::Error {
+        let command = self.command;
+        let name = self.name;
+        anyhow!("{command} has no option {name}: 'junction help' lists them")
+    }
 }
 
 impl Given {
-    // No options.
-    fn none() -> Given {
-        Given {
-            seed: None,
-            tape: None,
-            row_length: None,
-            scheduler: None,
-            steps: None,
-            identifiers: None,
-            runs: None,
-            allowance: None,
-        }
-    }
-
     // Takes one option of a command.
-    fn take(
-        &mut self,
-        heap: Global,
-        command: Command,
-        name: &str,
-        value: Option<String>,
-    ) -> anyhow::Result<()> {
-        match (name, command) {
-            ("--seed", _) => {
-                let seed = number_of(heap, name, value, 0, u32::MAX)?;
-                keep(heap, name, &mut self.seed, seed)
+    fn take(&mut self, asked: Asked<'_>) -> anyhow::Result<()> {
+        match (asked.name, asked.command) {
+            ("--seed", _) => asked.keep(&mut self.seed, asked.number(0, u32::MAX)?),
+            ("--tape", _) => asked.keep(&mut self.tape, asked.text()?),
+            ("--row-length", _) => asked.keep(&mut self.row_length, asked.number(1, 10_000)?),
+            ("--scheduler", Command::Run) => asked.keep(&mut self.scheduler, asked.scheduler()?),
+            ("--steps", Command::Run | Command::Batch) => {
+                asked.keep(&mut self.steps, asked.number(1, 10_000)?)
             }
-            ("--tape", _) => {
-                let path = value_of(heap, name, value)?;
-                keep(heap, name, &mut self.tape, path)
+            ("--identifiers", Command::Batch) => {
+                asked.keep(&mut self.identifiers, asked.identifiers()?)
             }
-            ("--row-length", _) => {
-                let length = number_of(heap, name, value, 1, 10_000)?;
-                keep(heap, name, &mut self.row_length, length)
+            ("--runs", Command::Batch) => asked.keep(&mut self.runs, asked.number(1, 10_000)?),
+            ("--allowance", Command::Batch) => {
+                asked.keep(&mut self.allowance, asked.number(1, 1_000_000_000)?)
             }
-            ("--scheduler", Command::Run) => {
-                let scheduler = scheduler_of(heap, name, value)?;
-                keep(heap, name, &mut self.scheduler, scheduler)
-            }
-            ("--steps", Command::Run) => self.take_steps(heap, name, value),
-            (_, Command::Batch) => self.take_of_batch(heap, name, value),
-            _ => Err(unknown(heap, command, name)?),
-        }
-    }
-
-    // Takes the number of steps.
-    fn take_steps(
-        &mut self,
-        heap: Global,
-        name: &str,
-        value: Option<String>,
-    ) -> anyhow::Result<()> {
-        let steps = number_of(heap, name, value, 1, 10_000)?;
-        keep(heap, name, &mut self.steps, steps)
-    }
-
-    // Takes one option that only a batch has.
-    fn take_of_batch(
-        &mut self,
-        heap: Global,
-        name: &str,
-        value: Option<String>,
-    ) -> anyhow::Result<()> {
-        match name {
-            "--identifiers" => {
-                let identifiers = identifiers_of(heap, name, value)?;
-                keep(heap, name, &mut self.identifiers, identifiers)
-            }
-            "--runs" => {
-                let runs = number_of(heap, name, value, 1, 10_000)?;
-                keep(heap, name, &mut self.runs, runs)
-            }
-            "--steps" => self.take_steps(heap, name, value),
-            "--allowance" => {
-                let allowance = number_of(heap, name, value, 1, 1_000_000_000)?;
-                keep(heap, name, &mut self.allowance, allowance)
-            }
-            _ => Err(unknown(heap, Command::Batch, name)?),
+            _ => Err(asked.unknown()),
         }
     }
 
@@ -234,10 +175,12 @@ impl Given {
         Ok(Options {
             draws,
             scheduler: scheduler.unwrap_or(Chooser::Earliest),
-            steps: steps.unwrap_or(command.steps()),
             identifiers,
-            runs: runs.unwrap_or(1_000),
-            allowance: allowance.unwrap_or(1_000_000_000),
+            limits: Limits {
+                runs: runs.unwrap_or(1_000),
+                steps: steps.unwrap_or(command.steps()),
+                allowance: allowance.unwrap_or(1_000_000_000),
+            },
         })
     }
 }
@@ -246,7 +189,7 @@ impl Given {
 fn given_or_ten(heap: Global, given: Option<Vec<u32>>) -> anyhow::Result<Vec<u32>> {
     match given {
         Some(identifiers) => Ok(identifiers),
-        None => Ok(vec![in heap; 0, 1, 2, 3, 4, 5, 6, 7, 8, 9]?),
+        None => Ok((0..10).collect(heap)?),
     }
 }
 
@@ -255,13 +198,13 @@ fn draws(
     seed: Option<u32>,
     tape: Option<String>,
     row_length: Option<u32>,
-) -> anyhow::Result<Draws> {
+) -> anyhow::Result<Draws<String>> {
     match (seed, tape, row_length) {
         (Some(_), Some(_), _) => Err(anyhow!("--seed and --tape do not go together")),
         (_, None, Some(_)) => Err(anyhow!("--row-length goes with --tape")),
         (seed, None, None) => Ok(Draws::Seed(seed.unwrap_or(0))),
         (None, Some(path), length) => Ok(Draws::Tape {
-            path,
+            numbers: path,
             row_length: length.unwrap_or(10_000) as usize,
         }),
     }
@@ -270,10 +213,15 @@ fn draws(
 impl Options {
     // Reads the options of a command, to the last argument.
     pub fn read(heap: Global, command: Command, mut args: Args) -> anyhow::Result<Options> {
-        let mut given = Given::none();
+        let mut given = Given::default();
         while let Some(name) = args.next() {
             let value = args.next();
-            given.take(heap, command, name.as_str(), value)?;
+            given.take(Asked {
+                heap,
+                command,
+                name: name.as_str(),
+                value: value.as_ref().map(|value| value.as_str()),
+            })?;
         }
         given.options(heap, command)
     }

@@ -1,20 +1,24 @@
 // What may happen first: the changes of stage 0 that are possible with all timers at zero.
 use crate::files::PlanFile;
 use describe::offered::OfferAtZero;
-use offers::possible::possible_changes;
 use offers::sound_plan::Plan;
 use region::Region;
+use runs::State;
 
 // Prints each possible change with its waits in seconds and in steps.
 pub fn possible(rt: &HostRuntime, path: &str) -> anyhow::Result<()> {
-    let (file, n) = PlanFile::open(rt, path)?;
-    let plan = Plan::of_tables(file.tables(&n), n);
-    let list = possible_changes(&plan, 0, &Region::opening(n.timers));
-    if list.len == 0 {
+    let file = PlanFile::open(rt, path)?;
+    let handed = file.handed();
+    let opening = State {
+        stage: 0,
+        region: Region::opening(handed.counts.timers),
+    };
+    let list = Plan::of_tables(handed).possible_changes(&opening);
+    if list.is_empty() {
         println!(rt; "no change of stage 0 is possible")?;
     }
-    for o in list.items.iter().take(list.len) {
-        println!(rt; "{}", OfferAtZero(*o))?;
+    for offer in list.as_slice() {
+        println!(rt; "{}", OfferAtZero(*offer))?;
     }
     Ok(())
 }

@@ -1,15 +1,12 @@
 // Makes the calls of a list and tells what each replies.
 use crate::files::{PlanFile, text_of};
 use crate::options::{Command, Options, file_name};
-use crate::sources::Source;
-use anyhow::anyhow;
+use anyhow::{Context, anyhow};
 use describe::calls::call;
 use describe::entries::ShownEntry;
-use draws::congruential::Congruential;
-use draws::tape::Tape;
+use draws::either::Source;
 use logs::Log;
-use plan::handed::Tables;
-use rows::section::Counts;
+use plan::handed::Handed;
 use run::call::{Call, Entry};
 use run::replay::replay;
 use schedulers::chooser::Chooser;
@@ -25,14 +22,10 @@ fn calls_in(rt: &HostRuntime, path: &str) -> anyhow::Result<Vec<Call<Chooser>>> 
     for line in text.as_str().lines() {
         let number = calls.len() + 1;
         if number > MOST_CALLS {
-            return Err(anyhow!(format!(in rt.alloc(); "{path} has more than {MOST_CALLS} calls")?));
+            return Err(anyhow!("{path} has more than {MOST_CALLS} calls"));
         }
-        let Some(c) = call(line) else {
-            return Err(anyhow!(format!(in rt.alloc();
-                "line {number} of {path} is no call: {line}"
-            )?));
-        };
-        calls.push(c)?;
+        let asked = call(line).context(format_args!("line {number} of {path} is no call: {line}"))?;
+        calls.push(asked)?;
     }
     Ok(calls)
 }
@@ -40,31 +33,15 @@ fn calls_in(rt: &HostRuntime, path: &str) -> anyhow::Result<Vec<Call<Chooser>>> 
 // The entry of each call of a list.
 pub fn entries_of(
     rt: &HostRuntime,
-    tables: Tables<'_>,
-    n: Counts,
-    source: &Source,
+    handed: Handed<'_>,
+    source: Source<'_>,
     calls: &[Call<Chooser>],
 ) -> anyhow::Result<Vec<Entry>> {
     let mut rows = vec![in rt.alloc(); Entry::blank(); calls.len()]?;
     let mut log = Log::new(&mut rows);
-    let result = match source {
-        Source::Computed(seed) => {
-            let (result, _) = replay(tables, n, Congruential::new(*seed), calls, &mut log);
-            result
-        }
-        Source::Recorded {
-            numbers,
-            row_length,
-        } => {
-            let tape = Tape::new(numbers, *row_length);
-            let (result, _) = replay(tables, n, tape, calls, &mut log);
-            result
-        }
-    };
-    match result {
-        Ok(()) => Ok(rows),
-        Err(refusal) => Err(anyhow!(refusal.text())),
-    }
+    let (made, _) = replay(handed, source, calls, &mut log);
+    made?;
+    Ok(rows)
 }
 
 // Makes the calls of a file, and prints a line for each.
@@ -73,10 +50,10 @@ pub fn replay_file(rt: &HostRuntime, mut args: Args) -> anyhow::Result<()> {
         return Err(anyhow!("replay takes two files: junction replay PLAN CALLS"));
     };
     let options = Options::read(rt.alloc(), Command::Replay, args)?;
-    let (file, n) = PlanFile::open(rt, plan.as_str())?;
+    let file = PlanFile::open(rt, plan.as_str())?;
     let calls = calls_in(rt, path.as_str())?;
-    let source = Source::load(rt, &options.draws)?;
-    let entries = entries_of(rt, file.tables(&n), n, &source, &calls)?;
+    let draws = options.draws.load(rt)?;
+    let entries = entries_of(rt, file.handed(), draws.source(), &calls)?;
     for entry in entries.iter() {
         println!(rt; "{}", ShownEntry(entry))?;
     }

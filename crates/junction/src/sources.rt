@@ -1,23 +1,16 @@
 // Where the draws of a run come from.
 use crate::files::text_of;
-use anyhow::anyhow;
+use anyhow::Context;
 use describe::numbers::number;
+use draws::congruential::Congruential;
+use draws::either::Source;
+use draws::tape::Tape;
 
-// A seed, or a file of recorded numbers.
+// A seed, or recorded numbers that a tape goes over: a file of them by its path, or as they were read.
 #[derive(Drop)]
-pub enum Draws {
+pub enum Draws<T> {
     Seed(u32),
-    Tape { path: String, row_length: usize },
-}
-
-// A seed, or recorded numbers in rows of one length.
-#[derive(Drop)]
-pub enum Source {
-    Computed(u32),
-    Recorded {
-        numbers: Vec<u32>,
-        row_length: usize,
-    },
+    Tape { numbers: T, row_length: usize },
 }
 
 // The numbers of a tape file.
@@ -25,27 +18,40 @@ fn numbers_in(rt: &HostRuntime, path: &str) -> anyhow::Result<Vec<u32>> {
     let text = text_of(rt, path)?;
     let mut numbers = Vec::new(rt.alloc());
     for word in text.as_str().split_whitespace() {
-        let Some(n) = number(word) else {
-            let place = numbers.len() + 1;
-            let message = format!(in rt.alloc();
-                "number {place} of {path} is not from 0 to 4294967295: {word}"
-            )?;
-            return Err(anyhow!(message));
-        };
+        let place = numbers.len() + 1;
+        let n = number(word).context(format_args!(
+            "number {place} of {path} is not from 0 to 4294967295: {word}"
+        ))?;
         numbers.push(n)?;
     }
     Ok(numbers)
 }
 
-impl Source {
+impl Draws<String> {
     // Reads the numbers of a tape; a seed needs no reading.
-    pub fn load(rt: &HostRuntime, draws: &Draws) -> anyhow::Result<Source> {
-        match draws {
-            Draws::Seed(seed) => Ok(Source::Computed(*seed)),
-            Draws::Tape { path, row_length } => Ok(Source::Recorded {
+    pub fn load(self, rt: &HostRuntime) -> anyhow::Result<Draws<Vec<u32>>> {
+        match self {
+            Draws::Seed(seed) => Ok(Draws::Seed(seed)),
+            Draws::Tape {
+                numbers: path,
+                row_length,
+            } => Ok(Draws::Tape {
                 numbers: numbers_in(rt, path.as_str())?,
-                row_length: *row_length,
+                row_length,
             }),
+        }
+    }
+}
+
+impl Draws<Vec<u32>> {
+    // The source of the draws, at its first row.
+    pub fn source(&self) -> Source<'_> {
+        match self {
+            Draws::Seed(seed) => Source::Computed(Congruential::new(*seed)),
+            Draws::Tape {
+                numbers,
+                row_length,
+            } => Source::Recorded(Tape::new(numbers, *row_length)),
         }
     }
 }

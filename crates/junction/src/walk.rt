@@ -1,6 +1,7 @@
 // Walks a plan's timers through waits and resets, and prints the region after each.
 use crate::files::PlanFile;
-use anyhow::anyhow;
+use anyhow::Context;
+use describe::faults::ShownRefusal;
 use describe::regions::{Intervals, ShownRegion};
 use region::Region;
 use rows::refusal::Refusal;
@@ -14,13 +15,11 @@ enum Move {
     Reset(u16),
 }
 
+// Numbers of a walk may begin with a sign, as `+3`, so they are read by `parse` and not by `number`, which takes digits alone.
 // The bit of a timer that is written as x0, x1 and so on.
 fn timer_bit(word: &str) -> Option<u16> {
-    let digits = word.strip_prefix('x')?;
-    match digits.parse::<u32>() {
-        Ok(i) if i < 16 => Some(1u16 << i),
-        _ => None,
-    }
+    let timer = word.strip_prefix('x')?.parse::<u32>().ok()?;
+    1u16.checked_shl(timer)
 }
 
 // The timers that are written as x0,x1.
@@ -32,20 +31,16 @@ fn timer_bits(words: &str) -> Option<u16> {
     Some(bits)
 }
 
+// The move that two words ask for, if they ask for one.
 fn parsed(name: &str, value: &str) -> Option<Move> {
     match name {
-        "wait" => match value.parse::<u32>() {
-            Ok(steps) => Some(Move::Wait(steps)),
-            Err(_) => None,
-        },
-        "reset" => match timer_bits(value) {
-            Some(bits) => Some(Move::Reset(bits)),
-            None => None,
-        },
+        "wait" => Some(Move::Wait(value.parse::<u32>().ok()?)),
+        "reset" => Some(Move::Reset(timer_bits(value)?)),
         _ => None,
     }
 }
 
+// Makes a move from a region.
 fn made(region: &mut Region, m: Move, ceilings: &[TimerRow]) -> Result<(), Refusal> {
     match m {
         Move::Wait(steps) => region.wait(steps, ceilings),
@@ -53,34 +48,34 @@ fn made(region: &mut Region, m: Move, ceilings: &[TimerRow]) -> Result<(), Refus
     }
 }
 
+// Prints a region, by its classes and as a planner reads it.
 fn show(rt: &HostRuntime, region: &Region) -> anyhow::Result<()> {
     println!(rt; "{} | {}", ShownRegion(region), Intervals(region))?;
     Ok(())
 }
 
+// The most moves that a walk makes.
+const MOST_MOVES: u32 = 10_000;
+
 // Reads the plan, then goes through the moves. A refused one is told, and the walk goes on from where it was.
 pub fn regions(rt: &HostRuntime, path: &str, args: &mut Args) -> anyhow::Result<()> {
-    let (file, n) = PlanFile::open(rt, path)?;
-    let mut region = Region::opening(n.timers);
+    let file = PlanFile::open(rt, path)?;
+    let ceilings = file.tables().timers;
+    let mut region = Region::opening(ceilings.len());
     show(rt, &region)?;
-    for _ in 0..10_000u32 {
+    for _ in 0..MOST_MOVES {
         let Some(name) = args.next() else {
             return Ok(());
         };
-        let value = match args.next() {
-            Some(value) => value,
-            None => return Err(anyhow!("each move has a value: wait STEPS, or reset x0,x1")),
-        };
-        let Some(m) = parsed(name.as_str(), value.as_str()) else {
-            return Err(anyhow!("a move is wait STEPS, or reset x0,x1"));
-        };
-        match made(&mut region, m, file.tables(&n).timers) {
+        let value = args
+            .next()
+            .context("each move has a value: wait STEPS, or reset x0,x1")?;
+        let m = parsed(name.as_str(), value.as_str()).context(
+            "a move is wait STEPS, or reset x0,x1",
+        )?;
+        match made(&mut region, m, ceilings) {
             Ok(()) => show(rt, &region)?,
-            Err(refusal) => {
-                let number = refusal.number();
-                let text = refusal.text();
-                println!(rt; "refused {number}: {text}")?;
-            }
+            Err(refusal) => println!(rt; "{}", ShownRefusal(refusal))?,
         }
     }
     Ok(())

@@ -27,7 +27,7 @@ impl<'a, T: Copy> Log<'a, T> {
     pub fn entries(&self) -> &[T]
         ensures { result.now ≡ entries_of self.now }
     {
-        &self.rows[0..self.len]
+        &self.rows[..self.len]
     }
 
     // How many more entries fit.
@@ -47,6 +47,7 @@ impl<'a, T: Copy> Log<'a, T> {
         if self.len == self.rows.len() {
             return Err(Refusal::LogFull);
         }
+        // Tried: `get_mut`, after whose refusal the rows were not shown to be as they were.
         self.rows[self.len] = entry;
         self.len += 1;
         Ok(())

@@ -5,8 +5,8 @@ ghost use Rattle.std.specs.Prelude.{◌≤◌, length};
 
 pub mod entries;
 
-// The entries are the first rows of the slice. The rows past them stay as they were.
-#[derive(Drop)]
+// The entries are the first rows of the slice, whose number stands beside it, since a run has no heap and its slice is lent. The rows past them stay as they were.
+#[derive(Debug, Drop)]
 pub struct Log<'a, T> {
     rows: &'a mut [T],
     len: usize,

@@ -1,9 +1,10 @@
 -- The rows of a checked plan break no rule, and the plan in them can be run.
 use Rattle.std.proofs.Common.{◌≡◌, true, is_some, refl, ap, ◌∙◌}
 use Rattle.std.proofs.lemmas.Bool.{cond_both, not_from_false}
-use Rattle.rows.specs.declared.section.Counts.{Counts}
-use Rattle.rows.specs.Plans.{PlanRows, counts_of, front}
-use Rattle.rows.specs.Verdicts.{fault_from, faultless, first_in, record_fault, tables_fault}
+use Rattle.plan.specs.declared.handed.Handed.{Handed}
+use Rattle.plan.specs.Handed.{counted_in, fault_in, held_by}
+use Rattle.rows.specs.Plans.{PlanRows}
+use Rattle.rows.specs.Verdicts.{fault_from, faultless, first_in, record_fault}
 use Rattle.rows.proofs.Soundness.{faultless_from_sound, sound_from_faultless, verdict_decides}
 use Rattle.runs.specs.Plans.{Sound}
 use Rattle.runs.specs.Tables.{plan_in}
@@ -14,12 +15,12 @@ blank_faultless : faultless blank_rows ≡ true
 unfolding faultless first_in fault_from record_fault
 blank_faultless = refl
 
-checked_faultless : (n : Counts) (p : PlanRows) → faultless (checked n p) ≡ true
-checked_faultless n p =
-    cond_both (is_some (tables_fault (counts_of p) n (front n p))) blank_rows (front n p) (λ q. faultless q ≡ true) (λ e. blank_faultless) (λ e. faultless_from_sound (front n p) ((verdict_decides n p).0 (not_from_false (is_some (tables_fault (counts_of p) n (front n p))) e)).1)
+pub checked_faultless : (h : Handed) → faultless (checked h) ≡ true
+checked_faultless h =
+    cond_both (is_some (fault_in h)) blank_rows (counted_in h) (λ q. faultless q ≡ true) (λ e. blank_faultless) (λ e. faultless_from_sound (counted_in h) ((verdict_decides h.counts (held_by h.tables)).0 (not_from_false (is_some (fault_in h)) e)).1)
 
-pub as_checked_faultless : (n : Counts) (p q : PlanRows) → q ≡ checked n p → faultless q ≡ true
-as_checked_faultless n p q e = ap faultless e ∙ checked_faultless n p
+pub as_checked_faultless : (h : Handed) (q : PlanRows) → q ≡ checked h → faultless q ≡ true
+as_checked_faultless h q e = ap faultless e ∙ checked_faultless h
 
 -- rows that break no rule hold a plan that can be run
 pub plan_sound : (p : PlanRows) → faultless p ≡ true → Sound (plan_in p)

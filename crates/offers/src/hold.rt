@@ -10,6 +10,7 @@ use crate::sound_plan::Plan;
 use crate::waits::{Span, count, cuts, steps};
 use region::Region;
 use rows::tables::TimerRow;
+use runs::State;
 
 // The longest wait by which no timer passes its ceiling.
 fn ceiling_wait(region: &Region, timers: &[TimerRow]) -> u32
@@ -24,32 +25,37 @@ fn ceiling_wait(region: &Region, timers: &[TimerRow]) -> u32
     best
 }
 
-// The waits by the ceilings that the hold of a stage allows.
-fn hold_span(plan: &Plan<'_>, stage: u16, region: &Region) -> Span
-    ensures span { span_of result ≡ hold_span (plan_of plan.now) stage (viewed region.now) }
-    ensures few { result.until ≤ 32 * 65535 + 1 }
-{
-    let by_ceilings = Span::upto(ceiling_wait(region, plan.rows.timers));
-    cuts(region, plan.hold(stage), by_ceilings)
-}
-
-// The last wait of a stage's hold interval, whose first is 0: the last that hold and ceilings allow, or 0 if the hold does not allow 0.
-pub fn top(plan: &Plan<'_>, stage: u16, region: &Region) -> u32
-    ensures the_hold_interval_is_permitted_time { TheHoldIntervalIsPermittedTime }
-    ensures last { result ≡ top (plan_of plan.now) stage (viewed region.now) }
-    ensures few { result ≤ 32 * 65535 }
-{
-    let span = hold_span(plan, stage, region);
-    if span.has(0) {
-        (span.until - 1) as u32
-    } else {
-        0
+impl Plan<'_> {
+    // The waits by the ceilings that the hold of a stage allows.
+    #[tactic(auto, unfolding(runs::specs::Runs::ceiling_wait, runs::specs::Runs::hold_span))]
+    fn hold_span(&self, at: &State) -> Span
+        ensures span { span_of result ≡ hold_span (plan_of self.now) at.now.stage (viewed at.now.region) }
+        ensures few { result.until ≤ 32 * 65535 + 1 }
+    {
+        let by_ceilings = Span::upto(ceiling_wait(&at.region, self.rows.timers));
+        cuts(&at.region, self.hold(at.stage), by_ceilings)
     }
-}
 
-// Whether the goal is on at some wait from 0 through d.
-pub fn goal_by(plan: &Plan<'_>, stage: u16, region: &Region, d: u32) -> bool
-    ensures { result ≡ goal_by (plan_of plan.now) stage (viewed region.now) d }
-{
-    plan.is_goal(stage) && cuts(region, plan.goal(), Span::upto(d)).is_some()
+    // The last wait of a stage's hold interval, whose first is 0: the last that hold and ceilings allow, or 0 if the hold does not allow 0.
+    #[tactic(auto, unfolding(runs::specs::Runs::top))]
+    pub fn top(&self, at: &State) -> u32
+        ensures the_hold_interval_is_permitted_time { TheHoldIntervalIsPermittedTime }
+        ensures last { result ≡ top (plan_of self.now) at.now.stage (viewed at.now.region) }
+        ensures few { result ≤ 32 * 65535 }
+    {
+        let span = self.hold_span(at);
+        if span.has(0) {
+            (span.until - 1) as u32
+        } else {
+            0
+        }
+    }
+
+    // Whether the goal is on at some wait from 0 through `wait`.
+    #[tactic(auto, unfolding(runs::specs::Runs::goal_by))]
+    pub fn goal_by(&self, at: &State, wait: u32) -> bool
+        ensures { result ≡ goal_by (plan_of self.now) at.now.stage (viewed at.now.region) wait }
+    {
+        self.is_goal(at.stage) && cuts(&at.region, self.goal(), Span::upto(wait)).is_some()
+    }
 }

@@ -1,9 +1,9 @@
 // What may happen next: the waits that comparisons allow, the hold interval of a stage, and the changes that are possible.
 #![tactic(auto)]
 
-pub mod hold;
+mod hold;
 pub mod list;
-pub mod possible;
+mod possible;
 pub mod sound_plan;
 mod stage;
 #[cfg(test)]

@@ -1,49 +1,63 @@
 // Lists of offers.
-ghost use Rattle.std.specs.Prelude.{◌≡◌, ◌+◌, ◌<◌, ◌≤◌, [], ◌++◌};
-ghost use Rattle.offers.specs.Lists.{Tidy, in_option, listed};
+ghost use Rattle.std.specs.Prelude.{◌≡◌, ◌-◌, ◌<◌, ◌≤◌, [], ◌∷◌, ◌++◌, length, drop, replicate, ◌==◌};
+ghost use Rattle.runs.specs.Runs.{blank_offer};
 
 use runs::Offer;
 
 // The most offers that a list holds.
 pub const MOST: usize = 128;
 
-// The first `len` items are the offers, and the others are blank.
+// The first `len` items are the offers, and the others are blank. The room is fixed and the list is copied whole, since logs that are lent keep it and nothing grows inside a run.
 #[derive(Clone, Copy, Debug)]
 pub struct OfferList {
-    pub items: [Offer; MOST],
-    pub len: usize,
+    pub(crate) items: [Offer; MOST],
+    pub(crate) len: usize,
+    ghost room: { length items ≡ 128 },
+    ghost few: { len ≤ 128 },
+    ghost blank: { drop len items ≡ replicate (128 - len) blank_offer },
 }
 
-const BLANK: Offer = Offer {
-    change: 0,
-    lowest: 0,
-    highest: 0,
-};
-
 impl OfferList {
+    ghost use Rattle.offers.specs.Lists.{listed};
+
     // The list with no offer.
     pub fn none() -> OfferList
-        ensures none { listed result ≡ [] }
-        ensures tidy { Tidy result }
-        ensures count { result.len ≡ 0 }
+        ensures { listed result ≡ [] }
     {
         OfferList {
-            items: [BLANK; MOST],
+            items: [Offer::default(); MOST],
             len: 0,
         }
     }
 
-    // Puts an offer, if there is one, at the end.
-    pub(crate) fn add(&mut self, offer: Option<Offer>)
-        requires tidy { Tidy self.old }
-        requires room { self.old.len < 128 }
-        ensures listed { listed self.new ≡ listed self.old ++ in_option offer }
-        ensures tidy { Tidy self.new }
-        ensures count { self.new.len ≤ self.old.len + 1 }
+    // The offers, in order.
+    pub fn as_slice(&self) -> &[Offer]
+        ensures { result.now ≡ listed self.now }
     {
-        if let Some(offer) = offer {
-            self.items[self.len] = offer;
-            self.len += 1;
-        }
+        &self.items[..self.len]
+    }
+
+    // How many offers there are.
+    pub fn len(&self) -> usize
+        ensures count { result ≡ length (listed self.now) }
+        ensures few { result ≤ 128 }
+    {
+        self.as_slice().len()
+    }
+
+    // Whether there is no offer.
+    pub fn is_empty(&self) -> bool
+        ensures { result ≡ (length (listed self.now) == 0) }
+    {
+        self.as_slice().is_empty()
+    }
+
+    // Puts an offer at the end.
+    pub fn push(&mut self, offer: Offer)
+        requires { length (listed self.old) < 128 }
+        ensures { listed self.new ≡ listed self.old ++ offer ∷ [] }
+    {
+        self.items[self.len] = offer;
+        self.len += 1;
     }
 }

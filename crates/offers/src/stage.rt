@@ -4,7 +4,7 @@ ghost use Rattle.offers.specs.Known.{plan_of, rows_of};
 ghost use Rattle.runs.specs.Plans.{stage_of};
 ghost use Rattle.runs.specs.Tables.{comparison_of_row, stage_of_row};
 
-use crate::sound_plan::{BLANK_STAGE, Plan};
+use crate::sound_plan::Plan;
 use rows::reading::Mark;
 use rows::tables::{ComparisonRow, StageRow, part};
 
@@ -15,12 +15,11 @@ impl<'a> Plan<'a> {
         ensures marked { result.mark < 4 }
         ensures few { result.changes ≤ 128 }
     {
-        let stages = self.rows.stages;
-        if (stage as usize) < stages.len() {
-            stages[stage as usize]
-        } else {
-            BLANK_STAGE
-        }
+        self.rows
+            .stages
+            .get(usize::from(stage))
+            .copied()
+            .unwrap_or_default()
     }
 
     // The comparisons by which a stage holds.
@@ -35,12 +34,14 @@ impl<'a> Plan<'a> {
     pub(crate) fn is_goal(&self, stage: u16) -> bool
         ensures { result ≡ (stage_of (plan_of self.now) stage).goal }
     {
-        match self.stage_row(stage).marking() {
-            Mark::Goal => true,
-            Mark::Both => true,
-            Mark::Unmarked => false,
-            Mark::Avoid => false,
-        }
+        matches!(self.stage_row(stage).marking(), Mark::Goal | Mark::Both)
+    }
+
+    // Whether a stage is to be avoided.
+    pub fn is_avoid(&self, stage: u16) -> bool
+        ensures { result ≡ (stage_of (plan_of self.now) stage).avoid }
+    {
+        matches!(self.stage_row(stage).marking(), Mark::Avoid | Mark::Both)
     }
 
     // The comparisons of the goal.

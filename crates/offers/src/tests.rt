@@ -1,14 +1,13 @@
 // What may happen in a plan of two timers, x and y, with ceilings of 10 seconds.
-use crate::hold::{goal_by, top};
-use crate::possible::possible_changes;
+use crate::list::OfferList;
 use crate::sound_plan::Plan;
 use crate::waits::{Span, cut, cuts};
-use plan::handed::Tables;
+use plan::handed::{Handed, Tables};
 use region::Region;
 use rows::reading::{Comparison, Relation, Subject};
 use rows::section::Counts;
 use rows::tables::{ChangeRow, ComparisonRow, GoalRow, OutcomeRow, StageRow, TimerRow};
-use runs::Offer;
+use runs::{Offer, State};
 use std::test::Fail;
 
 const TEN: TimerRow = TimerRow { ceiling: 10 };
@@ -95,7 +94,7 @@ fn plan_of<'a>(rows: &'a Rows, goals: usize) -> Plan<'a> {
         outcomes: &rows.outcomes,
         goals: &GOALS,
     };
-    let n = Counts {
+    let counts = Counts {
         timers: 2,
         comparisons: 5,
         stages: 2,
@@ -103,7 +102,7 @@ fn plan_of<'a>(rows: &'a Rows, goals: usize) -> Plan<'a> {
         outcomes: 3,
         goals,
     };
-    Plan::of_tables(tables, n)
+    Plan::of_tables(Handed { tables, counts })
 }
 
 // The region so many steps after all timers were at zero.
@@ -113,35 +112,48 @@ fn after(steps: u32) -> Result<Region, Fail> {
     Ok(region)
 }
 
+// A stage with both timers at zero.
+fn at_zero(stage: u16) -> State {
+    State {
+        stage,
+        region: Region::opening(2),
+    }
+}
+
 #[test]
 fn the_change_is_offered_from_two_to_three_seconds(rt: HostRuntime) {
     let rows = example(3);
     let plan = plan_of(&rows, 1);
-    let region = Region::opening(2);
-    assert_eq!(rt; top(&plan, 0, &region), 6);
-    let list = possible_changes(&plan, 0, &region);
-    assert_eq!(rt; list.len, 1);
+    let at = at_zero(0);
+    assert_eq!(rt; plan.top(&at), 6);
+    let list = plan.possible_changes(&at);
+    assert_eq!(rt; list.len(), 1);
     assert_eq!(rt;
-        list.items[0],
-        Offer {
+        list.as_slice().first().copied(),
+        Some(Offer {
             change: 0,
             lowest: 4,
             highest: 6,
-        }
+        })
     );
-    assert_eq!(rt; list.items[1].highest, 0);
+    let past = list.items[1];
+    assert_eq!(rt; past.highest, 0);
 }
 
 #[test]
 fn a_stage_past_its_hold_lasts_no_longer(rt: HostRuntime) -> Result<(), Fail> {
     let rows = example(3);
     let plan = plan_of(&rows, 1);
-    let region = after(8)?;
-    assert_eq!(rt; top(&plan, 0, &region), 0);
-    let list = possible_changes(&plan, 0, &region);
-    assert_eq!(rt; list.len, 1);
-    assert_eq!(rt; list.items[0].lowest, 0);
-    assert_eq!(rt; list.items[0].highest, 0);
+    let at = State {
+        stage: 0,
+        region: after(8)?,
+    };
+    assert_eq!(rt; plan.top(&at), 0);
+    let list = plan.possible_changes(&at);
+    assert_eq!(rt; list.len(), 1);
+    let first = list.items[0];
+    assert_eq!(rt; first.lowest, 0);
+    assert_eq!(rt; first.highest, 0);
     Ok(())
 }
 
@@ -149,28 +161,35 @@ fn a_stage_past_its_hold_lasts_no_longer(rt: HostRuntime) -> Result<(), Fail> {
 fn a_guard_after_the_hold_is_not_offered(rt: HostRuntime) {
     let rows = example(1);
     let plan = plan_of(&rows, 1);
-    let list = possible_changes(&plan, 0, &Region::opening(2));
-    assert_eq!(rt; list.len, 0);
-    assert_eq!(rt; list.items[0].highest, 0);
+    let list = plan.possible_changes(&at_zero(0));
+    assert_eq!(rt; list.len(), 0);
+    let past = list.items[0];
+    assert_eq!(rt; past.highest, 0);
 }
 
 #[test]
 fn tables_that_do_not_pass_make_a_plan_in_which_nothing_happens(rt: HostRuntime) {
     let rows = example(3);
     let plan = plan_of(&rows, 2);
-    let region = Region::opening(1);
-    assert_eq!(rt; top(&plan, 0, &region), 2);
-    assert_eq!(rt; possible_changes(&plan, 0, &region).len, 0);
+    let at = State {
+        stage: 0,
+        region: Region::opening(1),
+    };
+    assert_eq!(rt; plan.top(&at), 2);
+    assert!(rt; plan.possible_changes(&at).is_empty());
 }
 
 #[test]
 fn the_goal_counts_in_its_stage_while_it_is_on(rt: HostRuntime) -> Result<(), Fail> {
     let rows = example(3);
     let plan = plan_of(&rows, 1);
-    let late = after(9)?;
-    assert!(rt; goal_by(&plan, 1, &Region::opening(2), 0));
-    assert!(rt; !goal_by(&plan, 0, &Region::opening(2), 0));
-    assert!(rt; !goal_by(&plan, 1, &late, 4294967295));
+    let late = State {
+        stage: 1,
+        region: after(9)?,
+    };
+    assert!(rt; plan.goal_by(&at_zero(1), 0));
+    assert!(rt; !plan.goal_by(&at_zero(0), 0));
+    assert!(rt; !plan.goal_by(&late, 4294967295));
     Ok(())
 }
 
@@ -228,7 +247,7 @@ fn a_stage_offers_as_many_changes_as_it_may_have(rt: HostRuntime) {
             comparisons: 0,
         }],
     };
-    let n = Counts {
+    let counts = Counts {
         timers: 2,
         comparisons: 0,
         stages: 1,
@@ -236,14 +255,29 @@ fn a_stage_offers_as_many_changes_as_it_may_have(rt: HostRuntime) {
         outcomes: 1,
         goals: 1,
     };
-    let list = possible_changes(&Plan::of_tables(tables, n), 0, &Region::opening(2));
-    assert_eq!(rt; list.len, 128);
+    let list = Plan::of_tables(Handed { tables, counts }).possible_changes(&at_zero(0));
+    assert_eq!(rt; list.len(), 128);
     assert_eq!(rt;
-        list.items[127],
-        Offer {
+        list.as_slice().last().copied(),
+        Some(Offer {
             change: 127,
             lowest: 0,
             highest: 20,
-        }
+        })
     );
+}
+
+#[test]
+fn a_list_tells_the_offers_that_were_pushed(rt: HostRuntime) {
+    let mut list = OfferList::none();
+    assert!(rt; list.is_empty());
+    let late = Offer {
+        change: 3,
+        lowest: 8,
+        highest: 12,
+    };
+    list.push(Offer::default());
+    list.push(late);
+    assert_eq!(rt; list.len(), 2);
+    assert_eq!(rt; list.as_slice().last().copied(), Some(late));
 }

@@ -11,7 +11,7 @@ use region::Region;
 use rows::reading::{Comparison, Relation, Subject};
 use rows::tables::ComparisonRow;
 
-// Some waits in a row: those that are at least `from` and below `until`.
+// Some waits in a row: those that are at least `from` and below `until`. std's Range is not Copy, and has no words for what a comparison leaves of it.
 #[derive(Clone, Copy, Debug, PartialEq, Eq)]
 pub struct Span {
     pub from: u64,
@@ -19,13 +19,13 @@ pub struct Span {
 }
 
 impl Span {
-    // Those from 0 through d.
-    pub fn upto(d: u32) -> Span
-        ensures { span_of result ≡ upto d }
+    // Those from 0 through `last`.
+    pub fn upto(last: u32) -> Span
+        ensures { span_of result ≡ upto last }
     {
         Span {
             from: 0,
-            until: d as u64 + 1,
+            until: u64::from(last) + 1,
         }
     }
 
@@ -36,11 +36,12 @@ impl Span {
         self.from < self.until
     }
 
-    // Whether the wait d is one of them.
-    pub fn has(self, d: u32) -> bool
-        ensures { result ≡ inside d (span_of self) }
+    // Whether a wait is one of them.
+    pub fn has(self, wait: u32) -> bool
+        ensures { result ≡ inside wait (span_of self) }
     {
-        self.from <= d as u64 && (d as u64) < self.until
+        let wait = u64::from(wait);
+        self.from <= wait && wait < self.until
     }
 
     // Those that are at least n.
@@ -64,30 +65,27 @@ impl Span {
     }
 }
 
-// The steps that a timer takes in so many seconds.
+// The steps that a timer takes in so many seconds: at most 32 a second, for sixteen classes. Where a wait is no longer, its contract says so by this number: a type that keeps it would be opened again at each sum.
 pub(crate) fn steps(region: &Region, seconds: u16) -> u32
     ensures steps { result ≡ 2 * (viewed region.now).classes * seconds }
     ensures few { result ≤ 32 * 65535 }
 {
-    region.steps_per_second() * seconds as u32
+    region.steps_per_second() * u32::from(seconds)
 }
 
 // How many steps after zero a timer stands. One that is not there counts as a timer at zero seconds with the smallest fraction.
 pub(crate) fn count(region: &Region, timer: usize) -> u32
     ensures { result ≡ count (viewed region.now) (timer_no (viewed region.now) timer) }
 {
-    match region.count(timer) {
-        Some(count) => count,
-        None => { if region.is_whole() { 0 } else { 1 } }
-    }
+    region.count(timer).unwrap_or(u32::from(!region.is_whole()))
 }
 
 // The waits after which a timer with this count stands so to a bound.
 fn bounded(relation: Relation, count: u32, bound: u32, span: Span) -> Span
     ensures { span_of result ≡ bounded (relation_in relation) count bound (span_of span) }
 {
-    let count = count as u64;
-    let bound = bound as u64;
+    let count = u64::from(count);
+    let bound = u64::from(bound);
     match relation {
         Relation::AtLeast => span.from_on(bound.saturating_sub(count)),
         Relation::Above => span.from_on((bound + 1).saturating_sub(count)),
@@ -115,20 +113,13 @@ pub fn cut(region: &Region, comparison: Comparison, span: Span) -> Span
     let bound = steps(region, comparison.constant);
     match comparison.subject {
         Subject::Timer(timer) => {
-            bounded(
-                comparison.relation,
-                count(region, timer as usize),
-                bound,
-                span,
-            )
+            let count = count(region, usize::from(timer));
+            bounded(comparison.relation, count, bound, span)
         }
         Subject::Lead(timer, other) => {
-            let led = count(region, other as usize) as u64 + bound as u64;
-            if says(
-                comparison.relation,
-                count(region, timer as usize) as u64,
-                led,
-            ) {
+            let led = u64::from(count(region, usize::from(other))) + u64::from(bound);
+            let ahead = u64::from(count(region, usize::from(timer)));
+            if says(comparison.relation, ahead, led) {
                 span
             } else {
                 span.before(0)
@@ -143,6 +134,7 @@ pub fn cuts(region: &Region, list: &[ComparisonRow], span: Span) -> Span
     ensures value { span_of result ≡ cuts (viewed region.now) (map comparison_of_row list.now) (span_of span) }
 {
     let mut left = span;
+    // A plain loop over the list of comparisons, as the project fixes it.
     for row in list {
         left = cut(region, row.reading(), left);
     }

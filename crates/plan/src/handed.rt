@@ -1,12 +1,11 @@
 // The six tables of a plan, as a caller hands them.
 ghost use Rattle.std.specs.Prelude.{◌≡◌, ◌≤◌, length};
-ghost use Rattle.plan.specs.Handed.{held_by};
+ghost use Rattle.plan.specs.Handed.{counted_in, held_by};
 ghost use Rattle.rows.specs.Plans.{counts_of, front};
-ghost use Rattle.rows.specs.Sound.{Fits};
 
 use crate::records::Records;
 use rows::section::Counts;
-use rows::tables::{ChangeRow, ComparisonRow, GoalRow, OutcomeRow, StageRow, TimerRow};
+use rows::tables::{ChangeRow, ComparisonRow, GoalRow, OutcomeRow, StageRow, TimerRow, first_rows};
 
 // Tables to be looked at.
 #[derive(Clone, Copy)]
@@ -59,18 +58,33 @@ impl<'a> Records for Tables<'a> {
 }
 
 impl<'a> Tables<'a> {
-    // The first rows of each table, as many as are counted.
-    pub(crate) fn cut(self, n: &Counts) -> Tables<'a>
-        requires { Fits n.now (counts_of (held_by self)) }
+    // The first rows of each table, as many as are counted, as far as there are any.
+    pub fn front(self, n: &Counts) -> Tables<'a>
         ensures { held_by result ≡ front n.now (held_by self.entry) }
     {
         Tables {
-            timers: &self.timers[0..n.timers],
-            comparisons: &self.comparisons[0..n.comparisons],
-            stages: &self.stages[0..n.stages],
-            changes: &self.changes[0..n.changes],
-            outcomes: &self.outcomes[0..n.outcomes],
-            goals: &self.goals[0..n.goals],
+            timers: first_rows(self.timers, n.timers),
+            comparisons: first_rows(self.comparisons, n.comparisons),
+            stages: first_rows(self.stages, n.stages),
+            changes: first_rows(self.changes, n.changes),
+            outcomes: first_rows(self.outcomes, n.outcomes),
+            goals: first_rows(self.goals, n.goals),
         }
+    }
+}
+
+// Tables as a caller hands them, with how many rows of each are the plan's.
+#[derive(Clone, Copy)]
+pub struct Handed<'a> {
+    pub tables: Tables<'a>,
+    pub counts: Counts,
+}
+
+impl<'a> Handed<'a> {
+    // The rows that are counted, as far as there are any.
+    pub fn rows(self) -> Tables<'a>
+        ensures { held_by result ≡ counted_in self.entry }
+    {
+        self.tables.front(&self.counts)
     }
 }

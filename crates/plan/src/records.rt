@@ -6,7 +6,8 @@ ghost use Rattle.rows.specs.Verdicts.{no_change, no_comparison, no_goal, no_outc
 use rows::section::Counts;
 use rows::tables::{ChangeRow, ComparisonRow, GoalRow, OutcomeRow, StageRow, TimerRow};
 
-// Rows by section and place. The rules of a plan are checked once, over any such source.
+// Rows by section and place. The rules of a plan are checked once, over any such source. Each section has its own type of row,
+// and so its own method: one method over a type of row would need six impls for each source.
 pub trait Records {
     ghost held: { Self → PlanRows };
 

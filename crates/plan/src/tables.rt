@@ -1,59 +1,48 @@
 // The check of handed tables.
-ghost use Rattle.std.specs.Prelude.{◌≡◌, is_ok, Some, None, Decides, MatchResult};
-ghost use Rattle.rows.specs.Plans.{counts_of, front};
+ghost use Rattle.std.specs.Prelude.{◌≡◌, is_ok, Decides};
+ghost use Rattle.std.specs.Result.{result_err};
+ghost use Rattle.rows.specs.Plans.{counts_of};
 ghost use Rattle.rows.specs.Sections.{section_names};
 ghost use Rattle.rows.specs.Sound.{Fits, Sound};
-ghost use Rattle.rows.specs.Verdicts.{count_fault, count_rules, first_broken, first_in, tables_fault};
-ghost use Rattle.plan.specs.Handed.{held_by};
+ghost use Rattle.rows.specs.Verdicts.{count_fault, count_rules, first_broken, first_in};
+ghost use Rattle.plan.specs.Handed.{counted_in, fault_in, held_by};
 
-use crate::check::rows_fault;
-use crate::handed::Tables;
+use crate::check::check_rows;
+use crate::handed::Handed;
 use crate::records::Records;
-use rows::fault::{Fault, Where};
+use rows::fault::{Fault, Where, placed};
 use rows::refusal::Refusal;
 use rows::section::{Counts, SECTIONS, SectionName};
 
-// The rule that one count breaks.
-fn count_breaks(rooms: &Counts, n: &Counts, section: SectionName) -> Option<Refusal>
-    ensures { result ≡ first_broken (count_rules rooms.now n.now section) }
+// One count, or the rule that it breaks.
+fn check_count(rooms: &Counts, n: &Counts, section: SectionName) -> Result<(), Refusal>
+    ensures { result_err result ≡ first_broken (count_rules rooms.now n.now section) }
 {
     let count = n.of(section);
     if count < section.least() || count > section.most() {
-        return Some(Refusal::CountOffLimits);
+        return Err(Refusal::CountOffLimits);
     }
     if count > rooms.of(section) {
-        Some(Refusal::TableTooSmall)
-    } else {
-        None
+        return Err(Refusal::TableTooSmall);
     }
+    Ok(())
 }
 
-// The first count that is off its limits or does not fit its table.
-fn counts_fault(rooms: &Counts, n: &Counts) -> Option<Fault>
-    ensures { result ≡ first_in (count_fault rooms.now n.now) section_names }
+// The counts, or the first that is off its limits or does not fit its table.
+fn check_counts(rooms: &Counts, n: &Counts) -> Result<(), Fault>
+    ensures { result_err result ≡ first_in (count_fault rooms.now n.now) section_names }
 {
     for section in SECTIONS {
-        if let Some(refusal) = count_breaks(rooms, n, section) {
-            return Some(Fault {
-                refusal,
-                at: Where::Section(section),
-            });
-        }
+        placed(check_count(rooms, n, section), Where::Section(section))?;
     }
-    None
+    Ok(())
 }
 
 // Whether handed tables hold a sound plan, or the first rule that they break. Rows past the counts are not looked at.
-pub fn check_tables(tables: Tables<'_>, n: Counts) -> Result<(), Fault>
-    ensures answer { MatchResult result (λ _. tables_fault (counts_of (held_by tables.entry)) n (front n (held_by tables.entry)) ≡ None) (λ f. tables_fault (counts_of (held_by tables.entry)) n (front n (held_by tables.entry)) ≡ Some f) }
-    ensures tables_pass_exactly_if_they_are_sound { Decides (is_ok result) (Fits n (counts_of (held_by tables.entry)) × Sound (front n (held_by tables.entry))) }
+pub fn check_tables(handed: Handed<'_>) -> Result<(), Fault>
+    ensures answer { result_err result ≡ fault_in handed.entry }
+    ensures tables_pass_exactly_if_they_are_sound { Decides (is_ok result) (Fits handed.entry.counts (counts_of (held_by handed.entry.tables)) × Sound (counted_in handed.entry)) }
 {
-    if let Some(fault) = counts_fault(&tables.counts(), &n) {
-        return Err(fault);
-    }
-    let rows = tables.cut(&n);
-    if let Some(fault) = rows_fault(&rows) {
-        return Err(fault);
-    }
-    Ok(())
+    check_counts(&handed.tables.counts(), &handed.counts)?;
+    check_rows(&handed.rows())
 }

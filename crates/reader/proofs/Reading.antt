@@ -90,6 +90,12 @@ passed_sound rooms b p h =
     let counted = split_counted rooms b p h.split in
     sound_from_rows (plan_of p) (enough_rows rooms b p counted) (bounded_rows rooms b p counted) h.clear
 
+-- so each table has room for the rows of its section, which are whole records, as the code holds their bytes
+pub table_fits : {R : Type 0} (s : SectionName) (row : List ℕ → ℕ → R) (rooms : Counts) (b part d : List ℕ) (room : ℕ) → Counted s rooms b part (length (rows_in row (size_of s) part)) → count_of rooms s ≡ room → d ≡ part → Records (size_of s) d × (length (rows_in row (size_of s) d) ≤ room)
+table_fits s row rooms b part d room counted e same =
+    subst (λ (z : List ℕ). Records (size_of s) z × (length (rows_in row (size_of s) z) ≤ room)) (sym same)
+    (counted.whole, let fits = counted.fits in omega arith)
+
 -- the same table, told of equal bytes
 pub begins_at : {R : Type 0} (row : List ℕ → ℕ → R) (written : R → List ℕ) (size : ℕ) (b d : List ℕ) (before later : List R) → b ≡ d → Begins written b (rows_in row size b) before later → Begins written d (rows_in row size d) before later
 begins_at row written size b d before later e h = subst (λ (z : List ℕ). Begins written z (rows_in row size z) before later) e h

@@ -1,14 +1,12 @@
 -- Sections that were cut one after the other make up the file.
-use Rattle.std.proofs.Common.{◌≡◌, ℕ, ◌/◌, ◌≤◌, List, [], length, sym, ap, ◌∙◌, subst, arith}
+use Rattle.std.proofs.Common.{◌≡◌, ℕ, List, [], length, ap, ◌∙◌, subst}
 use Rattle.std.proofs.lemmas.List.{nil_from_length}
 use Rattle.rows.specs.declared.section.Counts.{Counts}
 use Rattle.rows.specs.declared.section.SectionName.{SectionName}
 use Rattle.rows.specs.declared.section.SectionName.TheVariants.{Timers, Comparisons, Stages, Changes, Outcomes, Goal}
-use Rattle.rows.specs.Files.{after, from1, from2, from3, from4, from5, rows_in}
-use Rattle.rows.proofs.Files.{length_rows_in}
+use Rattle.rows.specs.Files.{after, from1, from2, from3, from4, from5}
 use Rattle.reader.specs.declared.parts.Parts.{Parts}
 use Rattle.reader.specs.declared.section.Section.{Section}
-use Rattle.reader.specs.Filling.{Records}
 use Rattle.reader.specs.Parts.{Cut}
 use Rattle.reader.specs.Split.{Split}
 
@@ -32,10 +30,3 @@ split_from_cuts rooms b p r1 r2 r3 r4 r5 r6 c0 c1 c2 c3 c4 c5 ended =
       outcomes = at_bytes Outcomes rooms r4 (from4 b) p.outcomes r5 e4 c4;
       goals = subst (λ (z : List ℕ). Cut Goal rooms z p.goals []) e5 (subst (λ (z : List ℕ). Cut Goal rooms r5 p.goals z) (nil_from_length r6 ended) c5);
     }
-
--- the bytes of a section, as the code holds them, are whole records and fit the table
-pub part_fits : {R : Type 0} (row : List ℕ → ℕ → R) (size : ℕ) (b d : List ℕ) (room : ℕ) → b ≡ d → Records size d → length (rows_in row size d) ≤ room → Records size b × (length b / size ≤ room)
-part_fits row size b d room e whole fits = (
-  subst (λ (z : List ℕ). Records size z) (sym e) whole,
-  subst (λ (z : List ℕ). length z / size ≤ room) (sym e) (omega (arith, length_rows_in row size d)),
-)

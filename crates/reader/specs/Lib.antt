@@ -1,4 +1,5 @@
 pub mod Filling
 pub mod Gathered
+pub mod Owned
 pub mod Parts
 pub mod Split

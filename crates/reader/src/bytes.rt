@@ -1,5 +1,6 @@
 // Numbers and rows out of the bytes of a file.
 ghost use Rattle.std.specs.Prelude.{◌≡◌, ℕ, ◌+◌, ◌*◌, ◌<◌, ◌≤◌, List, length, take, drop, slice_index_or};
+ghost use Rattle.std.proofs.Common.{arith};
 ghost use Rattle.rows.specs.Files.{change_at, comparison_at, goal_at, outcome_at, rows_in, stage_at, timer_at, word_at};
 ghost use Rattle.rows.specs.Plans.{change_bytes, comparison_bytes, goal_bytes, outcome_bytes, stage_bytes, timer_bytes, word as two_bytes};
 
@@ -11,32 +12,43 @@ pub fn word(bytes: &[u8], i: usize) -> u16
     ensures value { result ≡ word_at bytes.now i }
     ensures whole { two_bytes result ≡ take 2 (drop i bytes.now) }
 {
-    u16::from(bytes[i]) * 256 + u16::from(bytes[i + 1])
+    u16::from_be_bytes([bytes[i], bytes[i + 1]])
 }
 
-// A row that stands in a file: how it is read, and how it is written.
+// A row that stands in a file: its bytes, how it is read, and how it is written.
 pub trait Row: Copy {
     ghost parsed: { List ℕ → ℕ → Self };
 
     ghost written: { Self → List ℕ };
 
-    ghost size: { ℕ };
+    ghost SIZE: { ℕ };
+
+    // The bytes of one record.
+    const SIZE: usize;
 
     fn at(part: &[u8], i: usize) -> Self
-        requires { i + size ≤ length part.now }
+        requires { i + SIZE ≤ length part.now }
         ensures value { result ≡ parsed part.now i }
-        ensures whole { written result ≡ take size (drop i part.now) };
+        ensures whole { written result ≡ take SIZE (drop i part.now) };
+
+    // A record takes some bytes.
+    ghost some: { 0 < SIZE };
 }
 
-// The row at a place of the part of the file that its section fills.
-pub fn nth_row<R: Row>(part: &[u8], size: usize, i: usize) -> R
-    requires sized { size ≡ R.Row.size }
-    requires some { 0 < size }
-    requires there { i < length (rows_in R.Row.parsed size part.now) }
-    ensures value { (d : R) → result ≡ slice_index_or (rows_in R.Row.parsed size part.now) i d }
-    ensures whole { R.Row.written result ≡ take size (drop (i * size) part.now) }
+// How many rows stand in the part of the file that a section fills.
+pub fn count<R: Row>(part: &[u8]) -> usize
+    ensures { result ≡ length (rows_in R.Row.parsed R.Row.SIZE part.now) }
 {
-    R::at(part, i * size)
+    part.len() / R::SIZE
+}
+
+// The row at a place of such a part.
+pub fn nth_row<R: Row>(part: &[u8], i: usize) -> R
+    requires { i < length (rows_in R.Row.parsed R.Row.SIZE part.now) }
+    ensures value { (d : R) → result ≡ slice_index_or (rows_in R.Row.parsed R.Row.SIZE part.now) i d }
+    ensures whole { R.Row.written result ≡ take R.Row.SIZE (drop (i * R.Row.SIZE) part.now) }
+{
+    R::at(part, i * R::SIZE)
 }
 
 impl Row for TimerRow {
@@ -44,7 +56,11 @@ impl Row for TimerRow {
 
     ghost written = { timer_bytes };
 
-    ghost size = { 2 };
+    ghost SIZE = { 2 };
+
+    const SIZE: usize = 2;
+
+    ghost some = { omega arith };
 
     fn at(part: &[u8], i: usize) -> TimerRow {
         TimerRow {
@@ -58,7 +74,11 @@ impl Row for ComparisonRow {
 
     ghost written = { comparison_bytes };
 
-    ghost size = { 6 };
+    ghost SIZE = { 6 };
+
+    const SIZE: usize = 6;
+
+    ghost some = { omega arith };
 
     fn at(part: &[u8], i: usize) -> ComparisonRow {
         ComparisonRow {
@@ -76,7 +96,11 @@ impl Row for StageRow {
 
     ghost written = { stage_bytes };
 
-    ghost size = { 10 };
+    ghost SIZE = { 10 };
+
+    const SIZE: usize = 10;
+
+    ghost some = { omega arith };
 
     fn at(part: &[u8], i: usize) -> StageRow {
         StageRow {
@@ -94,7 +118,11 @@ impl Row for ChangeRow {
 
     ghost written = { change_bytes };
 
-    ghost size = { 8 };
+    ghost SIZE = { 8 };
+
+    const SIZE: usize = 8;
+
+    ghost some = { omega arith };
 
     fn at(part: &[u8], i: usize) -> ChangeRow {
         ChangeRow {
@@ -111,7 +139,11 @@ impl Row for OutcomeRow {
 
     ghost written = { outcome_bytes };
 
-    ghost size = { 6 };
+    ghost SIZE = { 6 };
+
+    const SIZE: usize = 6;
+
+    ghost some = { omega arith };
 
     fn at(part: &[u8], i: usize) -> OutcomeRow {
         OutcomeRow {
@@ -127,7 +159,11 @@ impl Row for GoalRow {
 
     ghost written = { goal_bytes };
 
-    ghost size = { 4 };
+    ghost SIZE = { 4 };
+
+    const SIZE: usize = 4;
+
+    ghost some = { omega arith };
 
     fn at(part: &[u8], i: usize) -> GoalRow {
         GoalRow {

@@ -3,6 +3,7 @@
 
 mod bytes;
 mod fill;
+pub mod owned;
 mod parts;
 pub mod read;
 mod section;

@@ -4,9 +4,9 @@ ghost use Rattle.rows.specs.Files.{file_fault, layout_fault};
 ghost use Rattle.rows.specs.Sections.{section_names};
 ghost use Rattle.reader.specs.Split.{Passed, Split, plan_of};
 
-use crate::bytes::nth_row;
+use crate::bytes::{count, nth_row};
 use crate::section::{Section, cut};
-use plan::check::rows_fault;
+use plan::check::check_rows;
 use plan::records::Records;
 use rows::fault::{Fault, Where};
 use rows::refusal::Refusal;
@@ -55,37 +55,37 @@ impl<'a> Records for Parts<'a> {
 
     fn counts(&self) -> Counts {
         Counts {
-            timers: self.timers.bytes().len() / 2,
-            comparisons: self.comparisons.bytes().len() / 6,
-            stages: self.stages.bytes().len() / 10,
-            changes: self.changes.bytes().len() / 8,
-            outcomes: self.outcomes.bytes().len() / 6,
-            goals: self.goals.bytes().len() / 4,
+            timers: count::<TimerRow>(self.timers.bytes()),
+            comparisons: count::<ComparisonRow>(self.comparisons.bytes()),
+            stages: count::<StageRow>(self.stages.bytes()),
+            changes: count::<ChangeRow>(self.changes.bytes()),
+            outcomes: count::<OutcomeRow>(self.outcomes.bytes()),
+            goals: count::<GoalRow>(self.goals.bytes()),
         }
     }
 
     fn timer(&self, i: usize) -> TimerRow {
-        nth_row(self.timers.bytes(), 2, i)
+        nth_row(self.timers.bytes(), i)
     }
 
     fn comparison(&self, i: usize) -> ComparisonRow {
-        nth_row(self.comparisons.bytes(), 6, i)
+        nth_row(self.comparisons.bytes(), i)
     }
 
     fn stage(&self, i: usize) -> StageRow {
-        nth_row(self.stages.bytes(), 10, i)
+        nth_row(self.stages.bytes(), i)
     }
 
     fn change(&self, i: usize) -> ChangeRow {
-        nth_row(self.changes.bytes(), 8, i)
+        nth_row(self.changes.bytes(), i)
     }
 
     fn outcome(&self, i: usize) -> OutcomeRow {
-        nth_row(self.outcomes.bytes(), 6, i)
+        nth_row(self.outcomes.bytes(), i)
     }
 
     fn goal(&self, i: usize) -> GoalRow {
-        nth_row(self.goals.bytes(), 4, i)
+        nth_row(self.goals.bytes(), i)
     }
 }
 
@@ -94,8 +94,6 @@ pub fn sound_parts<'a>(rooms: &Counts, bytes: &'a [u8]) -> Result<Parts<'a>, Fau
     ensures { MatchResult result (λ p. Passed rooms.now bytes.now p) (λ f. file_fault rooms.now bytes.now ≡ Some f) }
 {
     let parts = split(rooms, bytes)?;
-    if let Some(fault) = rows_fault(&parts) {
-        return Err(fault);
-    }
+    check_rows(&parts)?;
     Ok(parts)
 }

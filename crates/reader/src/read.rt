@@ -3,10 +3,12 @@ ghost use Rattle.std.specs.Prelude.{◌≡◌, length, Some, MatchResult};
 ghost use Rattle.rows.specs.Files.{Read, file_fault};
 ghost use Rattle.rows.specs.Plans.{PlanRows, counts_of, file_of, front};
 ghost use Rattle.rows.specs.Sound.{Fits, Sound};
+ghost use Rattle.plan.specs.Handed.{held_by};
 ghost use Rattle.reader.specs.Gathered.{gathered, left_in};
 
 use crate::fill::fill;
 use crate::parts::sound_parts;
+use plan::handed::Tables;
 use plan::records::Records;
 use rows::fault::Fault;
 use rows::section::Counts;
@@ -23,17 +25,19 @@ pub struct TablesMut<'a> {
     pub goals: &'a mut [GoalRow],
 }
 
-// How many rows each table has room for.
-fn rooms(tables: &TablesMut<'_>) -> Counts
-    ensures { result ≡ counts_of (gathered tables.now) }
-{
-    Counts {
-        timers: tables.timers.len(),
-        comparisons: tables.comparisons.len(),
-        stages: tables.stages.len(),
-        changes: tables.changes.len(),
-        outcomes: tables.outcomes.len(),
-        goals: tables.goals.len(),
+impl<'a> TablesMut<'a> {
+    // The same tables, to be looked at.
+    pub fn view(&self) -> Tables<'_>
+        ensures { held_by result ≡ gathered self.now }
+    {
+        Tables {
+            timers: self.timers,
+            comparisons: self.comparisons,
+            stages: self.stages,
+            changes: self.changes,
+            outcomes: self.outcomes,
+            goals: self.goals,
+        }
     }
 }
 
@@ -42,13 +46,13 @@ pub fn read(bytes: &[u8], tables: TablesMut<'_>) -> Result<Counts, Fault>
     ensures answer { MatchResult result (λ n. Read bytes.now (gathered tables.entry) (left_in tables.exit) n) (λ f. (file_fault (counts_of (gathered tables.entry)) bytes.now ≡ Some f) × (left_in tables.exit ≡ gathered tables.entry)) }
     ensures the_file_of_every_sound_plan_that_fits_is_read_back { (p : PlanRows) → Sound p → Fits (counts_of p) (counts_of (gathered tables.entry)) → bytes.now ≡ file_of p → MatchResult result (λ n. front n (left_in tables.exit) ≡ p) (λ _. ⊥) }
 {
-    let parts = sound_parts(&rooms(&tables), bytes)?;
+    let parts = sound_parts(&tables.view().counts(), bytes)?;
     let counts = parts.counts();
-    fill(parts.timers.bytes(), 2, tables.timers);
-    fill(parts.comparisons.bytes(), 6, tables.comparisons);
-    fill(parts.stages.bytes(), 10, tables.stages);
-    fill(parts.changes.bytes(), 8, tables.changes);
-    fill(parts.outcomes.bytes(), 6, tables.outcomes);
-    fill(parts.goals.bytes(), 4, tables.goals);
+    fill(parts.timers.bytes(), tables.timers);
+    fill(parts.comparisons.bytes(), tables.comparisons);
+    fill(parts.stages.bytes(), tables.stages);
+    fill(parts.changes.bytes(), tables.changes);
+    fill(parts.outcomes.bytes(), tables.outcomes);
+    fill(parts.goals.bytes(), tables.goals);
     Ok(counts)
 }

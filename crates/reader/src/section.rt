@@ -1,15 +1,16 @@
 // The sections of a plan file, cut off its bytes one after the other.
 ghost use Rattle.std.specs.Prelude.{◌≡◌, ◌*◌, length, Some, MatchResult};
+ghost use Rattle.std.specs.Result.{result_err};
 ghost use Rattle.rows.specs.Files.{layout_rules, part_fault};
 ghost use Rattle.rows.specs.Verdicts.{first_broken};
 ghost use Rattle.reader.specs.Parts.{Cut, bytes_in, name_in};
 
 use crate::bytes::word;
-use rows::fault::{Fault, Where};
+use rows::fault::{Fault, Where, placed};
 use rows::refusal::Refusal;
 use rows::section::{Counts, SectionName};
 
-// A section as the part of the file that its records fill.
+// A section as the part of the file that its records fill. The project fixes this form: an enum whose cases hold parts of the file.
 #[derive(Clone, Copy)]
 pub enum Section<'a> {
     Timers(&'a [u8]),
@@ -40,35 +41,34 @@ impl<'a> Section<'a> {
         ensures { result.now ≡ bytes_in self.entry }
     {
         match self {
-            Section::Timers(part) => part,
-            Section::Comparisons(part) => part,
-            Section::Stages(part) => part,
-            Section::Changes(part) => part,
-            Section::Outcomes(part) => part,
-            Section::Goal(part) => part,
+            Section::Timers(part)
+            | Section::Comparisons(part)
+            | Section::Stages(part)
+            | Section::Changes(part)
+            | Section::Outcomes(part)
+            | Section::Goal(part) => part,
         }
     }
 }
 
-// The first rule that a section at the front of the bytes breaks, where its table has some room.
-fn part_breaks(name: SectionName, room: usize, bytes: &[u8]) -> Option<Refusal>
-    ensures { result ≡ first_broken (layout_rules name room bytes.now) }
+// The section at the front of the bytes, where its table has some room, or the first rule that it breaks.
+fn check_part(name: SectionName, room: usize, bytes: &[u8]) -> Result<(), Refusal>
+    ensures { result_err result ≡ first_broken (layout_rules name room bytes.now) }
 {
     if bytes.len() < 2 {
-        return Some(Refusal::FileEnds);
+        return Err(Refusal::FileEnds);
     }
     let count = word(bytes, 0) as usize;
     if count < name.least() || count > name.most() {
-        return Some(Refusal::CountOffLimits);
+        return Err(Refusal::CountOffLimits);
     }
     if count > room {
-        return Some(Refusal::TableTooSmall);
+        return Err(Refusal::TableTooSmall);
     }
     if bytes.len() < 2 + name.size() * count {
-        Some(Refusal::FileEnds)
-    } else {
-        None
+        return Err(Refusal::FileEnds);
     }
+    Ok(())
 }
 
 // Cuts a section off the front of the bytes: its count, then its records.
@@ -79,12 +79,10 @@ pub fn cut<'a>(
 ) -> Result<(Section<'a>, &'a [u8]), Fault>
     ensures { MatchResult result (λ x. Cut name rooms.now bytes.now x.0 x.1.now) (λ f. part_fault name rooms.now bytes.now ≡ Some f) }
 {
-    if let Some(refusal) = part_breaks(name, rooms.of(name), bytes) {
-        return Err(Fault {
-            refusal,
-            at: Where::Section(name),
-        });
-    }
+    placed(
+        check_part(name, rooms.of(name), bytes),
+        Where::Section(name),
+    )?;
     let size = name.size() * word(bytes, 0) as usize;
     let (part, rest) = bytes[2..].split_at(size);
     Ok((Section::new(name, part), rest))

@@ -1,6 +1,5 @@
 pub mod Shown
 pub mod Opened
-pub mod Table
 pub mod Waited
 pub mod Alike
 pub mod Marked

@@ -76,13 +76,8 @@ pub reset_shown : (ms : List Bool) (v : Record) (k n : ℕ) (ys : List TimerValu
 reset_shown ms v k n ys some classes_are timers_are =
     (λ i. record { whole = true; classes = classes_are i; timers = timers_are i }) ∙ sym (reset_some ms v some)
 
--- the row of a timer that is not named and does not stand at zero
-pub row_placed : (ms : List Bool) (v : Record) (t : Timer) (p : ℕ) → at_zero v t.rank ≡ false → p ≡ 1 + total (live ms v) t.rank → record { seconds = t.seconds; rank = p } ≡ reranked ms v t
-row_placed ms v t p above e =
-    λ i. record { seconds = t.seconds; rank = (e ∙ sym (cond-false (at_zero v t.rank) 0 (1 + total (live ms v) t.rank) above)) i }
-
 -- the record after the named timers are set to zero
-pub reset_after : (w : Bool) (k n bits : ℕ) (xs ys : List TimerValue) (table : List ℕ) → n ≤ length xs → leb (2 ^ length (map timer_in (take n xs))) bits ≡ false → (bits ≡ 0 → ⊥) → k ≤ 16 → Placed table (marks n bits) (record_in w k n xs) → map timer_in (take n ys) ≡ marked fresh (reranked (marks n bits) (record_in w k n xs)) (marks n bits) (map timer_in (take n xs)) → record_in true (get_or table k 0) n ys ≡ reset (marks n bits) (record_in w k n xs)
-reset_after w k n bits xs ys table room there some few placed rows_are =
+pub reset_after : (w : Bool) (k n p bits : ℕ) (xs ys : List TimerValue) (table : List ℕ) → n ≤ length xs → leb (2 ^ length (map timer_in (take n xs))) bits ≡ false → (bits ≡ 0 → ⊥) → p ≡ get_or table k 0 → k ≤ 16 → Placed table (marks n bits) (record_in w k n xs) → map timer_in (take n ys) ≡ marked fresh (reranked (marks n bits) (record_in w k n xs)) (marks n bits) (map timer_in (take n xs)) → record_in true p n ys ≡ reset (marks n bits) (record_in w k n xs)
+reset_after w k n p bits xs ys table room there some place few placed rows_are =
     let below : bits < 2 ^ n = rw (length_shown n xs room) at (leb-false (2 ^ length (map timer_in (take n xs))) bits there) in
-    reset_shown (marks n bits) (record_in w k n xs) (get_or table k 0) n ys (some_named bits n below some) (placed k (omega arith)) rows_are
+    reset_shown (marks n bits) (record_in w k n xs) p n ys (some_named bits n below some) (place ∙ placed k (omega arith)) rows_are

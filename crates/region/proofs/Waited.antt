@@ -1,8 +1,7 @@
 -- What the test on the ceilings says of each timer, and the rows after a wait.
-use Rattle.std.proofs.Common.{◌≡◌, ℕ, suc, ◌+◌, ◌-◌, ◌*◌, ◌%◌, ◌<◌, ◌≤◌, Bool, false, ◌||◌, eqb, List, ◌++◌, map, length, get_or, take, drop, set, Decides, sym, refl, ap, ◌∙◌, add-one, arith}
+use Rattle.std.proofs.Common.{◌≡◌, ℕ, suc, ◌+◌, ◌*◌, ◌%◌, ◌<◌, ◌≤◌, Bool, false, ◌||◌, eqb, List, ◌++◌, map, length, get_or, take, drop, Decides, sym, refl, ap, ◌∙◌, add-one, arith}
 use mathlib.Core.List.{map-map}
-use Rattle.std.proofs.lemmas.List.Edits.{map_over_more}
-use Rattle.std.proofs.lemmas.List.{get_or-append_right, get_or-drop, get_or_default, length-map, length-take-le, take_at}
+use Rattle.std.proofs.lemmas.List.{append-nil, drop_all, drop_more, get_or_at, length-map, length-take-le, take_all}
 use Rattle.std.proofs.lemmas.Bool.{or_from}
 use Rattle.std.proofs.lemmas.Bool.Decides.{Decides-below_or, Decides-ltb}
 use Rattle.rows.specs.declared.tables.TimerRow.{TimerRow}
@@ -34,28 +33,22 @@ abbrev pub later_row : Record → ℕ → TimerValue → TimerValue
 later_row v d row = row_at v.classes (count v (timer_in row) + d)
 
 -- the row at i is still to be written over
-read_over : (f : TimerValue → TimerValue) (xs ys : List TimerValue) (i : ℕ) → i < length xs → ys ≡ map f (take i xs) ++ drop i xs → get_or xs i blank ≡ get_or ys i (get_or xs i blank)
-read_over f xs ys i l e =
-    let x : TimerValue = get_or xs i blank in
+pub still_there : (f : TimerValue → TimerValue) (xs ys : List TimerValue) (i : ℕ) → i < length xs → ys ≡ map f (take i xs) ++ drop i xs → get_or ys i blank ≡ get_or xs i blank
+still_there f xs ys i l e =
     let front : length (map f (take i xs)) ≡ i = length-map (take i xs) f ∙ length-take-le i xs (omega arith) in
-    let none : i + (i - i) ≡ i = omega arith in
-    get_or_default xs i blank x l
-    ∙ ap (λ k. get_or xs k x) (sym none)
-    ∙ sym (get_or-drop i xs (i - i) x)
-    ∙ sym (get_or-append_right (map f (take i xs)) (drop i xs) i i x front (omega arith))
-    ∙ ap (λ zs. get_or zs i x) (sym e)
+    ap (λ zs. get_or zs i blank) (e ∙ ap (λ zs. map f (take i xs) ++ zs) (drop_more xs i blank l))
+    ∙ get_or_at (map f (take i xs)) (get_or xs i blank) (drop (i + 1) xs) blank i front
 
-pub write_over : (f : TimerValue → TimerValue) (xs ys : List TimerValue) (i : ℕ) → i < length xs → ys ≡ map f (take i xs) ++ drop i xs → set ys i (f (get_or xs i blank)) ≡ map f (take (i + 1) xs) ++ drop (i + 1) xs
-write_over f xs ys i l e = map_over_more f xs ys i (get_or xs i blank) l e (read_over f xs ys i l e)
-
-pub rows_later : (w : Bool) (k n : ℕ) (xs ys : List TimerValue) (d : ℕ) → n ≤ length xs → ys ≡ map (later_row (record_in w k n xs) d) (take n xs) ++ drop n xs → map timer_in (take n ys) ≡ (wait d (record_in w k n xs)).timers
-rows_later w k n xs ys d room e =
+-- once each row is written over, the rows show the timers after the wait
+pub rows_later : (w : Bool) (k n i : ℕ) (xs ys : List TimerValue) (d : ℕ) → length (take n xs) ≤ i → ys ≡ map (later_row (record_in w k n xs) d) (take i (take n xs)) ++ drop i (take n xs) → map timer_in ys ≡ (wait d (record_in w k n xs)).timers
+rows_later w k n i xs ys d all e =
     let v : Record = record_in w k n xs in
     let f : TimerValue → TimerValue = later_row v d in
     let g : Timer → Timer = λ t. timer_at k (count v t + d) in
-    let front : length (map f (take n xs)) ≡ n = length-map (take n xs) f ∙ length-take-le n xs room in
-    ap (λ zs. map timer_in (take n zs)) e
-    ∙ ap (map timer_in) (take_at (map f (take n xs)) (drop n xs) n front)
+    ap (map timer_in)
+    (e ∙ ap (λ zs. map f zs ++ drop i (take n xs)) (take_all i (take n xs) all)
+    ∙ ap (λ zs. map f (take n xs) ++ zs) (drop_all i (take n xs) all)
+    ∙ append-nil (map f (take n xs)))
     ∙ map-map timer_in f (take n xs)
     ∙ sym (map-map g timer_in (take n xs))
     ∙ sym (wait_timers d v)

@@ -1,8 +1,9 @@
 -- Whether two records say the same of the same timers, as a test; it answers whether they are one.
-use Rattle.std.specs.Prelude.{◌≡◌, Bool, true, ◌&&◌, ◌==◌, Decides}
+use Rattle.std.specs.Prelude.{◌≡◌, Bool, ◌&&◌, ◌==◌, Decides}
 use mathlib.Core.Path.{ap}
 use mathlib.Core.Bool.{beq}
 use Rattle.std.specs.Cmp.{IsPartialEquivalence, booleans_Decides, unsigned_Decides, decided, first_so, second_so, on_per, partial_equiv_from_equiv}
+use Rattle.std.specs.Cmp.Derive.{both_true}
 use Rattle.std.specs.Cmp.Lexicographic.{pointwise, pointwise_decides}
 use Rattle.theory.specs.Records.{Timer, Record}
 use Rattle.region.specs.declared.Region.{Region}
@@ -16,19 +17,18 @@ same_timer a b = (a.seconds == b.seconds) && (a.rank == b.rank)
 abbrev pub same_record : Record → Record → Bool
 same_record a b = beq a.whole b.whole && ((a.classes == b.classes) && pointwise same_timer a.timers b.timers)
 
-both : (a b : Bool) → a ≡ true → b ≡ true → (a && b) ≡ true
-both a b e f = λ i. e i && f i
-
-timers_decide : (a b : Timer) → Decides (same_timer a b) (a ≡ b)
+-- so it answers whether two timers are one
+pub timers_decide : (a b : Timer) → Decides (same_timer a b) (a ≡ b)
 timers_decide a b = (
   λ e.
       let s = (unsigned_Decides a.seconds b.seconds).0 (first_so (a.seconds == b.seconds) (a.rank == b.rank) e) in
       let r = (unsigned_Decides a.rank b.rank).0 (second_so (a.seconds == b.seconds) (a.rank == b.rank) e) in
       λ i. record { seconds = s i; rank = r i },
   λ e.
-      both (a.seconds == b.seconds) (a.rank == b.rank) ((unsigned_Decides a.seconds b.seconds).1 (ap (λ (t : Timer). t.seconds) e)) ((unsigned_Decides a.rank b.rank).1 (ap (λ (t : Timer). t.rank) e)),
+      both_true ((unsigned_Decides a.seconds b.seconds).1 (ap (λ (t : Timer). t.seconds) e)) ((unsigned_Decides a.rank b.rank).1 (ap (λ (t : Timer). t.rank) e)),
 )
 
+-- and whether two records are one
 pub records_decide : (a b : Record) → Decides (same_record a b) (a ≡ b)
 records_decide a b = (
   λ e.
@@ -37,7 +37,7 @@ records_decide a b = (
       let t = timers.0 (second_so y z (second_so x yz e)) in
       λ i. record { whole = w i; classes = c i; timers = t i },
   λ e.
-      both x yz ((booleans_Decides a.whole b.whole).1 (ap (λ (r : Record). r.whole) e)) (both y z ((unsigned_Decides a.classes b.classes).1 (ap (λ (r : Record). r.classes) e)) (timers.1 (ap (λ (r : Record). r.timers) e))),
+      both_true ((booleans_Decides a.whole b.whole).1 (ap (λ (r : Record). r.whole) e)) (both_true ((unsigned_Decides a.classes b.classes).1 (ap (λ (r : Record). r.classes) e)) (timers.1 (ap (λ (r : Record). r.timers) e))),
 )
   where
     x : Bool

@@ -1,7 +1,7 @@
 // A region of a plan's timers: for each timer its whole seconds and the place of its fraction among the different fractions.
 #![tactic(auto)]
 
-ghost use Rattle.std.specs.Prelude.{◌≡◌, ◌≤◌, length};
+ghost use Rattle.std.specs.Prelude.{◌≤◌};
 ghost use Rattle.region.specs.Views.{record_in};
 ghost use Rattle.theory.specs.Records.{Valid};
 
@@ -16,13 +16,13 @@ mod wait;
 use value::TimerValue;
 
 // A record that some timers can show, with room for sixteen of them. The rows past those of the timers say nothing.
+// The table is fixed, since a region is copied inside a run, which must need no memory of its own.
 #[derive(Clone, Copy, Debug)]
 pub struct Region {
     whole: bool,
     classes: u8,
     number: u8,
     rows: [TimerValue; 16],
-    ghost full: { length rows ≡ 16 },
     ghost some: { 1 ≤ number },
     ghost few: { number ≤ 16 },
     ghost classed: { 1 ≤ classes },

@@ -1,8 +1,8 @@
 // A reset of some timers to zero.
-ghost use Rattle.std.specs.Prelude.{◌≡◌, ℕ, ◌+◌, ◌<◌, ◌≤◌, true, map, length, take, is_err, if◌then◌else◌, slice_index, slice_index_or};
+ghost use Rattle.std.specs.Prelude.{◌≡◌, ℕ, Bool, List, ◌+◌, ◌<◌, ◌≤◌, true, map, length, take, is_err, if◌then◌else◌, slice_index};
 ghost use Rattle.region.specs.Resetting.{Placed, bit_no, marks, names_missing, reset_by};
 ghost use Rattle.region.specs.Viewed.{viewed};
-ghost use Rattle.region.specs.Views.{blank, timer_in};
+ghost use Rattle.region.specs.Views.{timer_in};
 ghost use Rattle.theory.specs.Records.{fresh, live, ranked, reranked};
 ghost use Rattle.theory.specs.Settings.{marked, total, unmarked};
 ghost use Rattle.theory.specs.Theorems.{ResettingTheTimersResetsTheRecord};
@@ -11,7 +11,7 @@ use crate::Region;
 use crate::value::TimerValue;
 use rows::refusal::Refusal;
 
-// Whether a timer is named: bit i of `timers` stands for timer i.
+// Whether a timer is named: bit i of `timers` stands for timer i. A struct round these bits would only name them again.
 fn is_named(timers: u16, timer: usize) -> bool
     requires { timer < 16 }
     ensures { result ≡ bit_no timers timer }
@@ -22,12 +22,11 @@ fn is_named(timers: u16, timer: usize) -> bool
 // The place of each rank, and of one more, among zero and the live classes.
 fn places(live: &[u8; 16]) -> [u8; 17]
     requires { (j : ℕ) → j < 16 → slice_index live.now j ≤ 1 }
-    ensures room { length result ≡ 17 }
-    ensures places { (j : ℕ) → j < 17 → slice_index result j ≡ 1 + total (λ x. slice_index live.now x) j }
+    ensures { (j : ℕ) → j < 17 → slice_index result j ≡ 1 + total (λ x. slice_index live.now x) j }
 {
     let mut places = [1; 17];
-    for j in 0..16 {
-        places[j + 1] = places[j] + live[j];
+    for (rank, class) in live.iter().enumerate() {
+        places[rank + 1] = places[rank] + *class;
     }
     places
 }
@@ -37,18 +36,17 @@ impl Region {
     fn names_missing(&self, timers: u16) -> bool
         ensures { result ≡ names_missing timers (viewed self.now) }
     {
-        self.number < 16 && timers as u32 >= 1u32 << self.number
+        u32::from(timers) >= 1u32 << self.number
     }
 
-    // 1 at each rank that a timer has which is not named.
+    // 1 at each rank that a timer has which is not named. Numbers and no flags, since `places` sums them.
     fn held_ranks(&self, timers: u16) -> [u8; 16]
-        ensures room { length result ≡ 16 }
-        ensures held { (j : ℕ) → j < 16 → slice_index result j ≡ ranked (unmarked (marks self.now.number timers) (viewed self.now).timers) j }
+        ensures { (j : ℕ) → j < 16 → slice_index result j ≡ ranked (unmarked (marks self.now.number timers) (viewed self.now).timers) j }
     {
         let mut held = [0; 16];
-        for i in 0..self.number as usize {
-            if !is_named(timers, i) {
-                held[self.rows[i].rank as usize] = 1;
+        for (timer, row) in self.values().iter().enumerate() {
+            if !is_named(timers, timer) {
+                held[usize::from(row.rank)] = 1;
             }
         }
         held
@@ -56,8 +54,7 @@ impl Region {
 
     // 1 at the rank of each live class: one above zero that a timer has which is not named.
     fn live_classes(&self, timers: u16) -> [u8; 16]
-        ensures room { length result ≡ 16 }
-        ensures live { (j : ℕ) → j < 16 → slice_index result j ≡ live (marks self.now.number timers) (viewed self.now) j }
+        ensures { (j : ℕ) → j < 16 → slice_index result j ≡ live (marks self.now.number timers) (viewed self.now) j }
     {
         let mut live = self.held_ranks(timers);
         if self.whole {
@@ -67,38 +64,36 @@ impl Region {
     }
 
     // The row of a timer after the reset. One that is not named keeps its seconds, and takes its place among zero and the live classes.
-    fn row_reset(&self, timers: u16, timer: usize, places: &[u8; 17]) -> TimerValue
-        requires there { timer < self.now.number }
-        requires placed { Placed places.now (marks self.now.number timers) (viewed self.now) }
-        ensures { timer_in result ≡ (if bit_no timers timer then fresh else reranked (marks self.now.number timers) (viewed self.now) (timer_in (slice_index_or self.now.rows timer blank))) }
+    fn row_reset(&self, row: TimerValue, is_named: bool, places: &[u8; 17]) -> TimerValue
+        requires { row.rank < self.now.classes }
+        ensures { (named : List Bool) → Placed places.now named (viewed self.now) → timer_in result ≡ (if is_named then fresh else reranked named (viewed self.now) (timer_in row)) }
     {
-        if is_named(timers, timer) {
+        if is_named {
             return TimerValue::ZERO;
         }
-        let row = self.rows[timer];
         if self.whole && row.rank == 0 {
             return row;
         }
         TimerValue {
             seconds: row.seconds,
-            rank: places[row.rank as usize],
+            rank: places[usize::from(row.rank)],
         }
     }
 
     // The rows after the reset.
     fn rows_reset(&self, timers: u16, places: &[u8; 17]) -> [TimerValue; 16]
         requires { Placed places.now (marks self.now.number timers) (viewed self.now) }
-        ensures room { length result ≡ 16 }
-        ensures reset { map timer_in (take self.now.number result) ≡ marked fresh (reranked (marks self.now.number timers) (viewed self.now)) (marks self.now.number timers) (viewed self.now).timers }
+        ensures { map timer_in (take self.now.number result) ≡ marked fresh (reranked (marks self.now.number timers) (viewed self.now)) (marks self.now.number timers) (viewed self.now).timers }
     {
         let mut rows = self.rows;
-        for i in 0..self.number as usize {
-            rows[i] = self.row_reset(timers, i, places);
+        for (timer, row) in rows[..self.timers()].iter_mut().enumerate() {
+            *row = self.row_reset(*row, is_named(timers, timer), places);
         }
         rows
     }
 
     // Sets the named timers to zero: bit i of `timers` names timer i. One that names a missing timer is refused and alters nothing.
+    #[tactic(auto, using(theory::proofs::Theorems::resetting_the_timers_resets_the_record))]
     pub fn reset(&mut self, timers: u16) -> Result<(), Refusal>
         ensures resetting_the_timers_resets_the_record { ResettingTheTimersResetsTheRecord }
         ensures answer { reset_by timers (viewed self.old) ≡ (result, viewed self.new) }
@@ -115,7 +110,7 @@ impl Region {
         let places = places(&live);
         *self = Region {
             whole: true,
-            classes: places[self.classes as usize],
+            classes: places[usize::from(self.classes)],
             number: self.number,
             rows: self.rows_reset(timers, &places),
         };

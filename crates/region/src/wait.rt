@@ -15,21 +15,16 @@ use rows::tables::TimerRow;
 fn ceiling_of(ceilings: &[TimerRow], timer: usize) -> u16
     ensures { result ≡ ceiling_no ceilings.now timer }
 {
-    if timer < ceilings.len() {
-        ceilings[timer].ceiling
-    } else {
-        0
-    }
+    ceilings.get(timer).map_or(0, |row| row.ceiling)
 }
 
 impl Region {
-    // Whether a timer would stand past so many seconds so many steps from now.
-    fn timer_passes(&self, timer: usize, steps: u32, ceiling: u16) -> bool
-        requires { timer < self.now.number }
-        ensures { result ≡ nat_lt (2 * self.now.classes * ceiling) (count (viewed self.now) (timer_no (viewed self.now) timer) + steps) }
+    // Whether a timer that has this row would stand past so many seconds so many steps from now.
+    fn timer_passes(&self, row: TimerValue, steps: u32, ceiling: u16) -> bool
+        ensures { result ≡ nat_lt (2 * self.now.classes * ceiling) (count (viewed self.now) (timer_in row) + steps) }
     {
-        let limit = self.steps_per_second() * ceiling as u32;
-        self.count_of(self.rows[timer]) as u64 + steps as u64 > limit as u64
+        let limit = self.steps_per_second() * u32::from(ceiling);
+        u64::from(self.count_of(row)) + u64::from(steps) > u64::from(limit)
     }
 
     // Whether some timer would stand past its ceiling so many steps from now.
@@ -37,8 +32,8 @@ impl Region {
         ensures tells { result ≡ passes ceilings.now steps (viewed self.now) }
         ensures bounds { result ≡ false → (i : ℕ) → i < self.now.number → count (viewed self.now) (timer_no (viewed self.now) i) + steps ≤ 2 * self.now.classes * 65535 }
     {
-        for i in 0..self.number as usize {
-            if self.timer_passes(i, steps, ceiling_of(ceilings, i)) {
+        for (timer, row) in self.values().iter().enumerate() {
+            if self.timer_passes(*row, steps, ceiling_of(ceilings, timer)) {
                 return true;
             }
         }
@@ -50,7 +45,7 @@ impl Region {
         requires { count ≤ 2 * self.now.classes * 65535 }
         ensures { result ≡ row_at self.now.classes count }
     {
-        let second = self.steps_per_second() as u64;
+        let second = u64::from(self.steps_per_second());
         TimerValue {
             seconds: (count / second) as u16,
             rank: (count % second / 2) as u8,
@@ -60,17 +55,17 @@ impl Region {
     // The rows so many steps from now.
     fn rows_after(&self, steps: u32) -> [TimerValue; 16]
         requires { (i : ℕ) → i < self.now.number → count (viewed self.now) (timer_no (viewed self.now) i) + steps ≤ 2 * self.now.classes * 65535 }
-        ensures room { length result ≡ 16 }
-        ensures later { map timer_in (take self.now.number result) ≡ (wait steps (viewed self.now)).timers }
+        ensures { map timer_in (take self.now.number result) ≡ (wait steps (viewed self.now)).timers }
     {
         let mut rows = self.rows;
-        for i in 0..self.number as usize {
-            rows[i] = self.row_at(self.count_of(self.rows[i]) as u64 + steps as u64);
+        for row in &mut rows[..self.timers()] {
+            *row = self.row_at(u64::from(self.count_of(*row)) + u64::from(steps));
         }
         rows
     }
 
     // Lets every timer run for so many steps. A wait past a timer's ceiling is refused and alters nothing.
+    #[tactic(auto, using(theory::proofs::Theorems::a_wait_crosses_what_time_crosses, theory::proofs::Theorems::one_step_is_the_next_region, theory::proofs::Theorems::steps_at_once_are_single_steps))]
     pub fn wait(&mut self, steps: u32, ceilings: &[TimerRow]) -> Result<(), Refusal>
         ensures a_wait_crosses_what_time_crosses { AWaitCrossesWhatTimeCrosses }
         ensures one_step_is_the_next_region { OneStepIsTheNextRegion }
@@ -82,7 +77,7 @@ impl Region {
         if self.passes(steps, ceilings) {
             return Err(Refusal::WaitOutsideHold);
         }
-        let whole = (self.edge() as u64 + steps as u64) % 2 == 0;
+        let whole = (u64::from(self.edge()) + u64::from(steps)) % 2 == 0;
         *self = Region {
             whole,
             classes: self.classes,

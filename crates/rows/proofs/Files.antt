@@ -1,5 +1,5 @@
 -- Reading a file gives the plan back that it is the file of.
-use Rattle.std.proofs.Common.{◌≡◌, ℕ, zero, suc, ◌+◌, ◌*◌, ◌/◌, ◌%◌, ◌<◌, ◌≤◌, List, [], ◌∷◌, ◌++◌, map, length, get_or, take, drop, Some, None, sym, refl, ap, ◌∙◌, add_assoc, mul-le-mul_right, suc-mul, mul-zero, zero-mul, mul-suc, div-mul-le_self, arith}
+use Rattle.std.proofs.Common.{◌≡◌, ℕ, zero, suc, ◌+◌, ◌*◌, ◌/◌, ◌%◌, ◌<◌, ◌≤◌, List, [], ◌∷◌, ◌++◌, map, length, get_or, take, drop, Some, None, Option, sym, refl, ap, ◌∙◌, add_assoc, mul-le-mul_right, suc-mul, mul-zero, zero-mul, mul-suc, div-mul-le_self, arith}
 use native.Mathlib.Nat.{div-eq_of_eq-mul_right}
 use Rattle.std.proofs.lemmas.List.{append-nil, length-append, length-drop, length-take-le, take_at, drop_at, take-append-drop, drop-drop, drop_more, get_or-append-add, ext_get_or}
 use Rattle.std.proofs.lemmas.List.FromFn.{length-map-range_with_len, get_or-map-range_with_len}
@@ -312,35 +312,11 @@ pub take_two : (b : List ℕ) (i : ℕ) → i + 2 ≤ length b → take 2 (drop 
 take_two b i h =
     take_byte 1 b i (omega arith) ∙ ap (λ z. get_or b i 0 ∷ z) (take_byte 0 b (i + 1) (omega arith))
 
-pub take_word : (n : ℕ) (b : List ℕ) (i : ℕ) → i + 2 ≤ length b → take (suc (suc n)) (drop i b) ≡ take 2 (drop i b) ++ take n (drop (i + 2) b)
-take_word n b i h =
-    let e : i + 1 + 1 ≡ i + 2 = omega arith in
-    take_byte (suc n) b i (omega arith)
-    ∙ ap (λ z. get_or b i 0 ∷ z) (take_byte n b (i + 1) (omega arith) ∙ ap (λ j. get_or b (i + 1) 0 ∷ take n (drop j b)) e)
-    ∙ ap (λ z. z ++ take n (drop (i + 2) b)) (sym (take_two b i h))
-
--- a number and the bytes behind it, put together
-pub word_then : (w : ℕ) (ws : List ℕ) (n : ℕ) (b : List ℕ) (i j : ℕ) → i + 2 ≡ j → j ≤ length b → word w ≡ take 2 (drop i b) → ws ≡ take n (drop j b) → word w ++ ws ≡ take (suc (suc n)) (drop i b)
-word_then w ws n b i j e h first rest =
-    let same : take n (drop j b) ≡ take n (drop (i + 2) b) = ap (λ k. take n (drop k b)) (sym e) in
-    let all = take_word n b i (omega arith) in
-    ap (λ z. z ++ ws) first ∙ ap (λ z. take 2 (drop i b) ++ z) (rest ∙ same) ∙ sym all
-
--- a byte and the bytes behind it, put together
-pub byte_then : (ws : List ℕ) (n : ℕ) (b : List ℕ) (i j : ℕ) → i + 1 ≡ j → j ≤ length b → ws ≡ take n (drop j b) → get_or b i 0 ∷ ws ≡ take (suc n) (drop i b)
-byte_then ws n b i j e h rest =
-    let same : take n (drop j b) ≡ take n (drop (i + 1) b) = ap (λ k. take n (drop k b)) (sym e) in
-    ap (λ z. get_or b i 0 ∷ z) (rest ∙ same) ∙ sym (take_byte n b i (omega arith))
-
--- the verdict on one section, from the rules that it keeps
-
-pub part_fails : (s : SectionName) (rooms : Counts) (b : List ℕ) (e : Refusal) → Some e ≡ first_broken (layout_rules s (count_of rooms s) b) → part_fault s rooms b ≡ Some (record { refusal = e; at = Section s })
+-- the verdict on one section, from what a check of its rules found
+pub part_checked : (s : SectionName) (rooms : Counts) (b : List ℕ) (room : ℕ) (checked : Option Refusal) (o : Option Fault) → room ≡ count_of rooms s → checked ≡ first_broken (layout_rules s room b) → o ≡ fault_at (Section s) checked → part_fault s rooms b ≡ o
 unfolding part_fault
-part_fails s rooms b e h = ap (fault_at (Section s)) (sym h)
-
-pub part_passes : (s : SectionName) (rooms : Counts) (b : List ℕ) → None ≡ first_broken (layout_rules s (count_of rooms s) b) → part_fault s rooms b ≡ None
-unfolding part_fault
-part_passes s rooms b h = ap (fault_at (Section s)) (sym h)
+part_checked s rooms b room checked o e found h =
+    sym (h ∙ ap (fault_at (Section s)) (found ∙ ap (λ n. first_broken (layout_rules s n b)) e))
 
 pub part_in_is : (s : SectionName) (b : List ℕ) → take (size_of s * word_at b 0) (drop 2 b) ≡ part_in s b
 unfolding part_in
@@ -362,17 +338,25 @@ part_whole s b e =
     ∙ ap (λ z. word (word_at b 0) ++ z)
     (sym (take-append-drop (size_of s * word_at b 0) (drop 2 b)) ∙ ap (λ z. z ++ drop (size_of s * word_at b 0) (drop 2 b)) (part_in_is s b) ∙ ap (λ z. part_in s b ++ z) (after_in s b))
 
--- a row among those that fit some bytes ends within them
-pub row_ends : (i size n : ℕ) → i < n / size → i * size + size ≤ n
-row_ends i size n h =
-    let times = mul-le-mul_right size h in
-    let whole = div-mul-le_self n size in
-    let more = suc-mul i size in
-    omega arith
-
 -- how many rows stand in a part
 pub length_rows_in : {R : Type 0} (row : List ℕ → ℕ → R) (size : ℕ) (b : List ℕ) → length (rows_in row size b) ≡ length b / size
 length_rows_in row size b = length-map-range_with_len (λ k. row b (k * size)) 0 (length b / size)
+
+-- such a row ends within the part
+pub row_ends : {R : Type 0} (row : List ℕ → ℕ → R) (size : ℕ) (b : List ℕ) (i : ℕ) → i < length (rows_in row size b) → i * size + size ≤ length b
+row_ends row size b i h =
+    let all = length_rows_in row size b in
+    let there : i < length b / size = omega arith in
+    let times = mul-le-mul_right size there in
+    let whole = div-mul-le_self (length b) size in
+    let more = suc-mul i size in
+    omega arith
+
+-- and is read at its place
+pub row_read : {R : Type 0} (row : List ℕ → ℕ → R) (size : ℕ) (b : List ℕ) (i : ℕ) (d : R) → i < length (rows_in row size b) → get_or (rows_in row size b) i d ≡ row b (i * size)
+row_read row size b i d h =
+    let all = length_rows_in row size b in
+    get_or-map-range_with_len (λ k. row b (k * size)) 0 (length b / size) i i d (omega arith) (omega arith)
 
 -- a section that breaks no rule has a count within its limits that fits its table
 pub part_within : (s : SectionName) (rooms : Counts) (b : List ℕ) → part_fault s rooms b ≡ None → (least_of s ≤ word_at b 0) × (word_at b 0 ≤ most_of s) × (word_at b 0 ≤ count_of rooms s)
@@ -380,6 +364,13 @@ unfolding part_fault
 part_within s rooms b h =
     let kept = kept_from_none (layout_rules s (count_of rooms s) b) (fault_at_none (Section s) (first_broken (layout_rules s (count_of rooms s) b)) h) in
     (grind (arith, nat_tests), grind (arith, nat_tests), grind (arith, nat_tests))
+
+-- and all its bytes are there
+pub part_long : (s : SectionName) (rooms : Counts) (b : List ℕ) → part_fault s rooms b ≡ None → 2 + size_of s * word_at b 0 ≤ length b
+unfolding part_fault
+part_long s rooms b h =
+    let kept = kept_from_none (layout_rules s (count_of rooms s) b) (fault_at_none (Section s) (first_broken (layout_rules s (count_of rooms s) b)) h) in
+    grind (arith, nat_tests)
 
 -- a file with a fault is not that of a sound plan that fits the tables
 pub fault_is_no_plan : (rooms : Counts) (b : List ℕ) (f : Fault) → file_fault rooms b ≡ Some f → (p : PlanRows) → Sound p → Fits (counts_of p) rooms → b ≡ file_of p → ⊥

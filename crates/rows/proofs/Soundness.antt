@@ -1,10 +1,11 @@
 -- A plan passes every rule exactly if it is sound.
-use Rattle.std.proofs.Common.{◌≡◌, ℕ, zero, suc, ◌+◌, ◌<◌, ◌≤◌, Bool, true, false, cond, not, ◌⊎◌, List, [], ◌∷◌, get_or, is_some, Some, None, Decides, Option, sym, refl, ap, ◌∙◌, subst, inl, inr, arith}
+use Rattle.std.proofs.Common.{◌≡◌, ℕ, zero, suc, ◌+◌, ◌<◌, ◌≤◌, Bool, true, false, cond, not, ◌⊎◌, List, [], ◌∷◌, get_or, is_ok, is_some, Ok, Err, Some, None, Decides, Option, Result, sym, refl, ap, ◌∙◌, subst, inl, inr, arith}
 use Rattle.std.proofs.ByRecursion.{All-get_or, All-from_get_or}
 use Rattle.std.proofs.lemmas.List.{length-take-le}
 use Rattle.std.proofs.lemmas.Bool.{cases_order}
 use Rattle.std.proofs.lemmas.Bool.Decides.{nat_tests, Decides-at}
 use Rattle.std.specs.List.{AllByRecursion}
+use Rattle.std.specs.Result.{result_err}
 use Rattle.rows.specs.declared.fault.Fault.{Fault}
 use Rattle.rows.specs.declared.fault.Where.{Where}
 use Rattle.rows.specs.declared.fault.Where.TheVariants.{Record, Section}
@@ -268,7 +269,11 @@ verdict_decides n p = (
   (λ h. ap (λ o. not (is_some o)) (none_from_sound (counts_of p) n (front n p) (front_counts n p h.0) h.0 h.1)),
 )
 
--- the same, at an answer that tells the verdict
-pub decides_from_verdict : (n : Counts) (p : PlanRows) (r : Bool) (o : Option Fault) → tables_fault (counts_of p) n (front n p) ≡ o → not (is_some o) ≡ r → Decides r (Fits n (counts_of p) × Sound (front n p))
-decides_from_verdict n p r o e t =
-    Decides-at r (not (is_some (tables_fault (counts_of p) n (front n p)))) (sym (ap (λ z. not (is_some z)) e ∙ t)) (verdict_decides n p)
+-- the same, at a check that answers the verdict
+pub checked_decides : (n : Counts) (p : PlanRows) (r : Result (Unit {0}) Fault) → result_err r ≡ tables_fault (counts_of p) n (front n p) → Decides (is_ok r) (Fits n (counts_of p) × Sound (front n p))
+checked_decides n p r e =
+    Decides-at (is_ok r) (not (is_some (tables_fault (counts_of p) n (front n p)))) (passes r ∙ ap (λ o. not (is_some o)) e) (verdict_decides n p)
+  where
+    passes : (r : Result (Unit {0}) Fault) → is_ok r ≡ not (is_some (result_err r))
+    passes (Ok _) = refl
+    passes (Err _) = refl

@@ -1,5 +1,5 @@
 -- The numbers of the six sections of a plan file.
-use Rattle.std.specs.Prelude.{ℕ, List, [], ◌∷◌}
+use Rattle.std.specs.Prelude.{ℕ, List, [], ◌∷◌, codes}
 use Rattle.rows.specs.declared.section.Counts.{Counts}
 use Rattle.rows.specs.declared.section.SectionName.{SectionName}
 use Rattle.rows.specs.declared.section.SectionName.TheVariants.{Timers, Comparisons, Stages, Changes, Outcomes, Goal}
@@ -43,3 +43,12 @@ count_of c Stages = c.stages
 count_of c Changes = c.changes
 count_of c Outcomes = c.outcomes
 count_of c Goal = c.goals
+
+-- the name of a section, as a planner is told it
+abbrev pub text_of : SectionName → List ℕ
+text_of Timers = codes "timers"
+text_of Comparisons = codes "comparisons"
+text_of Stages = codes "stages"
+text_of Changes = codes "changes"
+text_of Outcomes = codes "outcomes"
+text_of Goal = codes "goal"

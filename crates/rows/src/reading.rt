@@ -34,6 +34,7 @@ pub enum Mark {
     Both,
 }
 
+// Every number has a relation, so that a row can be read before it is checked: TryFrom would answer an error here.
 fn relation_of(kind: u8) -> Relation
     ensures { result ≡ relation_of kind }
 {
@@ -46,7 +47,7 @@ fn relation_of(kind: u8) -> Relation
 }
 
 impl ComparisonRow {
-    // The comparison of a row. A row whose numbers are known is the row of its comparison.
+    // The comparison of a row. It is no From, since it promises more than its value: a row whose numbers are known is the row of its comparison.
     pub fn reading(self) -> Comparison
         ensures value { result ≡ reading_of self }
         ensures a_known_row_is_the_row_of_its_reading { self.kind < 8 → self.filler ≡ 0 → (self.kind < 4 → self.second ≡ 0) → row_of result ≡ self }
@@ -65,7 +66,7 @@ impl ComparisonRow {
 }
 
 impl StageRow {
-    // The mark of a stage. A known number is the number of its mark.
+    // The mark of a stage. Every number has one, where TryFrom would answer an error. A known number is the number of its mark.
     pub fn marking(self) -> Mark
         ensures value { result ≡ mark_of self.mark }
         ensures a_known_number_is_that_of_its_mark { self.mark < 4 → mark_number result ≡ self.mark }

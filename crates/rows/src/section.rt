@@ -1,6 +1,8 @@
 // The six sections of a plan file, and one number for each of them.
-ghost use Rattle.std.specs.Prelude.{◌≡◌};
-ghost use Rattle.rows.specs.Sections.{count_of, least_of, most_of, size_of};
+ghost use Rattle.std.specs.Prelude.{◌≡◌, Some};
+ghost use Rattle.rows.specs.Sections.{count_of, least_of, most_of, size_of, text_of};
+
+use std::fmt;
 
 #[derive(Clone, Copy, Debug, PartialEq, Eq)]
 pub enum SectionName {
@@ -49,7 +51,7 @@ impl Counts {
 }
 
 impl SectionName {
-    // The bytes of one record.
+    // The bytes of one record. Each number has a match of its own, since each rule names one of them alone.
     pub fn size(self) -> usize
         ensures { result ≡ size_of self }
     {
@@ -90,15 +92,20 @@ impl SectionName {
             SectionName::Goal => 1,
         }
     }
+}
 
-    pub fn text(self) -> &'static str {
-        match self {
+// The name of a section, as a planner is told it.
+impl fmt::Display for SectionName {
+    ghost output = { λ section. Some (text_of section) };
+
+    fn fmt<W: fmt::Write>(&self, f: &mut fmt::Formatter<W>) -> fmt::Result {
+        f.write_str(match self {
             SectionName::Timers => "timers",
             SectionName::Comparisons => "comparisons",
             SectionName::Stages => "stages",
             SectionName::Changes => "changes",
             SectionName::Outcomes => "outcomes",
             SectionName::Goal => "goal",
-        }
+        })
     }
 }

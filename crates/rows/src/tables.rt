@@ -51,11 +51,17 @@ pub struct GoalRow {
     pub comparisons: u16,
 }
 
+// The first n rows, as far as there are any.
+pub fn first_rows<T>(rows: &[T], n: usize) -> &[T]
+    ensures { result.now ≡ take n rows.now }
+{
+    &rows[..n.min(rows.len())]
+}
+
 // The n rows from the row `first` on, as far as there are any.
 pub fn part<T>(rows: &[T], first: u16, n: u16) -> &[T]
     ensures { result.now ≡ take n (drop first rows.now) }
 {
     let start = (first as usize).min(rows.len());
-    let end = (first as usize + n as usize).min(rows.len());
-    &rows[start..end]
+    first_rows(&rows[start..], n as usize)
 }

@@ -1,9 +1,6 @@
 -- What a step does with the pair that its scheduler chooses.
-use Rattle.std.proofs.Common.{◌≡◌, ℕ, ◌-◌, ◌<◌, ◌≤◌, true, List, [], length, get_or, take, sym, ap, ◌∙◌, subst, arith}
+use Rattle.std.proofs.Common.{◌≡◌, ℕ, ◌<◌, ◌≤◌, true, false, List, [], ◌∷◌, length, get_or, ◌==◌, sym, refl, ap, ◌∙◌, subst, arith}
 use Rattle.std.specs.List.{AllByRecursion}
-use Rattle.std.proofs.lemmas.List.{length-take}
-use Rattle.offers.specs.declared.list.OfferList.{OfferList}
-use Rattle.offers.specs.Lists.{Tidy, listed}
 use Rattle.runs.specs.Plans.{Plan}
 use Rattle.runs.specs.Runs.{InRange, Outturn, Run, Scheduler, blank_offer, is_open, offers_of, step_call, take_call}
 use Rattle.runs.specs.declared.Offer.{Offer}
@@ -11,17 +8,14 @@ use Rattle.runs.proofs.Choosing.{step_takes}
 use Rattle.runs.proofs.Offered.{offers_in_order}
 use Rattle.runs.proofs.Taking.{open_is}
 
--- the part of a list's items that is handed to a scheduler is the list
-pub handed_list : (o : OfferList) (os : List Offer) → listed o ≡ os → take (o.len - 0) o.items ≡ os
-handed_list o os e = let n : o.len - 0 ≡ o.len = omega arith in ap (λ k. take k o.items) n ∙ e
+-- offers that are not none have one
+pub some_listed : (os rows : List Offer) → os ≡ rows → false ≡ (length rows == 0) → 1 ≤ length os
+some_listed os rows e n = grind arith
 
--- it has an offer if it counts one
-pub some_listed : (o : OfferList) (os : List Offer) → Tidy o → listed o ≡ os → (o.len ≡ 0 → ⊥) → 1 ≤ length os
-some_listed o os t e n = omega (arith, ap length e, length-take o.len o.items, t.room, t.few)
-
--- and none if it counts none
-pub none_listed : (o : OfferList) (os : List Offer) → listed o ≡ os → o.len ≡ 0 → os ≡ []
-none_listed o os e n = sym e ∙ ap (λ k. take k o.items) n
+-- a list without offers is the empty one
+pub none_listed : (os : List Offer) → true ≡ (length os == 0) → os ≡ []
+none_listed [] e = refl
+none_listed (o ∷ os) e = grind arith
 
 -- the place that a scheduler chooses is in the list
 pub place_in_list : (plan : Plan) (run : Run) (f : Scheduler) (os : List Offer) (answer : ℕ × ℕ) → InRange f → os ≡ offers_of plan run → 1 ≤ length os → answer ≡ f run.stage run.region os → answer.0 < length os
@@ -33,7 +27,3 @@ pub takes_the_choice : (plan : Plan) (run : Run) (f : Scheduler) (os : List Offe
 takes_the_choice plan run f os answer outturn o e l a t =
     let chosen : answer ≡ f run.stage run.region (offers_of plan run) = a ∙ ap (f run.stage run.region) e in
     step_takes plan f run (record { going_on = open_is run.standing o; some_offer = omega (arith, ap length e) }) ∙ (sym (λ i. take_call plan run (get_or (e i) (chosen i).0 blank_offer).change (chosen i).1) ∙ t)
-
--- and so it is below 128
-pub place_few : (o : OfferList) (place : ℕ) → Tidy o → place < length (take (o.len - 0) o.items) → place < 128
-place_few o place t l = omega (arith, length-take (o.len - 0) o.items, t.few)

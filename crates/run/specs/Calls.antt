@@ -35,7 +35,7 @@ reply_of (Stands s) = runs.standing s
 -- an entry, with the region that its rows show
 abbrev pub entry_of : Entry → runs.Entry
 entry_of e =
-    record { reply = reply_of e.reply; stage = e.stage; region = viewed e.region; standing = e.standing }
+    record { reply = reply_of e.reply; stage = e.at.stage; region = viewed e.at.region; standing = e.standing }
 
 -- an entry that tells of a run with one timer, at zero, in stage 0
 abbrev pub blank_entry : runs.Entry

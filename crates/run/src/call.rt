@@ -1,8 +1,7 @@
 // The calls that a list may hold, and what is told of each.
 use offers::list::OfferList;
-use region::Region;
 use rows::refusal::Refusal;
-use runs::{Answer, Standing};
+use runs::{Answer, Standing, State};
 
 // A call of a run. Each step has its own scheduler.
 #[derive(Clone, Copy)]
@@ -21,11 +20,10 @@ pub enum Reply {
     Stands(Standing),
 }
 
-// A call's reply, and where the run is after it.
+// A call's reply, and where the run is and how it stands after it.
 #[derive(Clone, Copy)]
 pub struct Entry {
     pub reply: Reply,
-    pub stage: u16,
-    pub region: Region,
+    pub at: State,
     pub standing: Standing,
 }

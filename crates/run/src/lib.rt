@@ -17,17 +17,16 @@ mod step;
 mod take;
 
 use offers::sound_plan::Plan;
-use region::Region;
-use runs::Standing;
+use runs::{Standing, State};
 
 // A run owns its plan and the source of its draws. Once opened, both are reached by its calls only.
+// What a call leaves as it was is said by each call: it holds of the run before and after, and no type of one run can keep it.
 #[derive(Drop)]
 pub struct Run<'p, D> {
     plan: Plan<'p>,
     source: D,
-    stage: u16,
-    region: Region,
+    at: State,
     standing: Standing,
-    ghost in_bounds: { ∥ InBounds (plan_of plan) (viewed region) ∥₁ },
-    ghost a_stage: { stage < length (plan_of plan).stages },
+    ghost in_bounds: { ∥ InBounds (plan_of plan) (viewed at.region) ∥₁ },
+    ghost a_stage: { at.stage < length (plan_of plan).stages },
 }

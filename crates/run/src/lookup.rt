@@ -14,15 +14,8 @@ pub(crate) fn change_of(plan: &Plan<'_>, stage: u16, change: u16) -> Option<Chan
 {
     let row = plan.stage_row(stage);
     let changes = part(plan.tables().changes, row.first_change, row.changes);
-    if change < row.first_change {
-        return None;
-    }
-    let place = (change - row.first_change) as usize;
-    if place < changes.len() {
-        Some(changes[place])
-    } else {
-        None
-    }
+    let place = change.checked_sub(row.first_change)?;
+    changes.get(usize::from(place)).copied()
 }
 
 // The outcomes of a change.

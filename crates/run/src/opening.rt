@@ -2,7 +2,6 @@
 ghost use Rattle.std.specs.Prelude.{◌≡◌};
 ghost use Rattle.offers.specs.Checked.{checked};
 ghost use Rattle.offers.specs.Known.{plan_of};
-ghost use Rattle.plan.specs.Handed.{held_by};
 ghost use Rattle.run.specs.Views.{plan_for, view_of};
 ghost use Rattle.runs.specs.Runs.{opening};
 ghost use Rattle.runs.specs.Tables.{plan_in};
@@ -12,9 +11,9 @@ use crate::Run;
 use crate::arrival::judged;
 use draws::source::DrawSource;
 use offers::sound_plan::Plan;
-use plan::handed::Tables;
+use plan::handed::Handed;
 use region::Region;
-use rows::section::Counts;
+use runs::State;
 
 impl<'p, D: DrawSource> Run<'p, D> {
     // A run of a checked plan: in stage 0, all timers at zero, its arrival judged.
@@ -25,25 +24,27 @@ impl<'p, D: DrawSource> Run<'p, D> {
         ensures regions_and_ticks_tell_the_same { RegionsAndTicksTellTheSame (plan_of plan.entry) (D.DrawSource.coming source) }
         ensures every_call_keeps_it_in_bounds { KeepsInBounds (plan_of plan.entry) (D.DrawSource.coming source) }
     {
-        let region = Region::opening(plan.tables().timers.len());
-        let standing = judged(&plan, 0, &region);
+        let at = State {
+            stage: 0,
+            region: Region::opening(plan.tables().timers.len()),
+        };
+        let standing = judged(&plan, &at);
         Run {
             plan,
             source,
-            stage: 0,
-            region,
+            at,
             standing,
         }
     }
 
     // A run of the plan in handed tables if they pass the check, and else of the plan in which nothing can happen.
-    pub fn open(tables: Tables<'p>, n: Counts, source: D) -> Run<'p, D>
-        ensures the_plan_handed { plan_for result ≡ plan_in (checked n (held_by tables.entry)) }
+    pub fn open(handed: Handed<'p>, source: D) -> Run<'p, D>
+        ensures the_plan_handed { plan_for result ≡ plan_in (checked handed.entry) }
         ensures as_it_opens { view_of D.DrawSource.coming result ≡ opening (plan_for result) (D.DrawSource.coming source) }
         ensures its_source { result.source ≡ source }
         ensures regions_and_ticks_tell_the_same { RegionsAndTicksTellTheSame (plan_for result) (D.DrawSource.coming source) }
         ensures every_call_keeps_it_in_bounds { KeepsInBounds (plan_for result) (D.DrawSource.coming source) }
     {
-        Run::of_plan(Plan::of_tables(tables, n), source)
+        Run::of_plan(Plan::of_tables(handed), source)
     }
 }

@@ -1,7 +1,6 @@
 // The replay of a list of calls.
 ghost use Rattle.std.specs.Prelude.{◌≡◌, ◌≤◌, true, [], ◌∷◌, length, is_err};
 ghost use Rattle.offers.specs.Checked.{checked};
-ghost use Rattle.plan.specs.Handed.{held_by};
 ghost use Rattle.run.specs.Calls.{Entered, Replayed, blank_entry, call_of, calls_of, entry_of, reply_of};
 ghost use Rattle.run.specs.Views.{plan_for, view_of};
 ghost use Rattle.runs.specs.Examples.{TheRulesGiveTheWorkedExamples};
@@ -14,11 +13,10 @@ use crate::Run;
 use crate::call::{Call, Entry, Reply};
 use draws::source::DrawSource;
 use logs::Log;
-use plan::handed::Tables;
+use plan::handed::Handed;
 use region::Region;
 use rows::refusal::Refusal;
-use rows::section::Counts;
-use runs::Standing;
+use runs::{Standing, State};
 use schedulers::scheduler::Scheduler;
 
 impl Entry {
@@ -28,8 +26,10 @@ impl Entry {
     {
         Entry {
             reply: Reply::Stands(Standing::Open),
-            stage: 0,
-            region: Region::opening(1),
+            at: State {
+                stage: 0,
+                region: Region::opening(1),
+            },
             standing: Standing::Open,
         }
     }
@@ -51,8 +51,7 @@ impl<'p, D: DrawSource> Run<'p, D> {
         };
         Entry {
             reply,
-            stage: self.stage,
-            region: self.region,
+            at: self.at,
             standing: self.standing,
         }
     }
@@ -66,6 +65,7 @@ impl<'p, D: DrawSource> Run<'p, D> {
         ensures same_rows { log.new.rows.ghost_name ≡ log.old.rows.ghost_name }
     {
         let entry = self.make(call);
+        // Not refused: there is room for the entry.
         let _ = log.enter(entry);
     }
 
@@ -82,17 +82,17 @@ impl<'p, D: DrawSource> Run<'p, D> {
     }
 }
 
-// Opens a run on handed tables and a source, makes every call of a list, and enters each reply, with where the run is then, in a log. Where the log has no room for all of them it is refused before anything is done. The source is given back.
+// Opens a run on handed tables and a source, makes every call of a list, and enters each reply, with where the run is then, in a log. Where the log has no room for all of them it is refused before anything is done. The source is given back whatever the answer, so it stands beside the result.
+#[tactic(auto, using(runs::proofs::Worked::the_rules_give_the_worked_examples))]
 pub fn replay<'p, S: Scheduler, D: DrawSource>(
-    tables: Tables<'p>,
-    n: Counts,
+    handed: Handed<'p>,
     source: D,
     calls: &[Call<S>],
     log: &mut Log<'_, Entry>,
 ) -> (Result<(), Refusal>, D)
-    ensures replayed { Replayed (plan_in (checked n (held_by tables.entry))) (D.DrawSource.coming source) (calls_of S.Scheduler.meaning calls.now) log.old log.new (D.DrawSource.coming result.1) result.0 }
-    ensures tells_a_tick_run { TellATickRun (plan_in (checked n (held_by tables.entry))) (D.DrawSource.coming source) (calls_of S.Scheduler.meaning calls.now) }
-    ensures regions_and_ticks_tell_the_same { RegionsAndTicksTellTheSame (plan_in (checked n (held_by tables.entry))) (D.DrawSource.coming source) }
+    ensures replayed { Replayed (plan_in (checked handed.entry)) (D.DrawSource.coming source) (calls_of S.Scheduler.meaning calls.now) log.old log.new (D.DrawSource.coming result.1) result.0 }
+    ensures tells_a_tick_run { TellATickRun (plan_in (checked handed.entry)) (D.DrawSource.coming source) (calls_of S.Scheduler.meaning calls.now) }
+    ensures regions_and_ticks_tell_the_same { RegionsAndTicksTellTheSame (plan_in (checked handed.entry)) (D.DrawSource.coming source) }
     ensures the_rules_give_the_worked_examples { TheRulesGiveTheWorkedExamples }
     ensures book_kept { D.DrawSource.book result.1 ≡ D.DrawSource.book source }
     ensures refused_unchanged { is_err result.0 ≡ true → result.1 ≡ source }
@@ -101,7 +101,7 @@ pub fn replay<'p, S: Scheduler, D: DrawSource>(
     if log.room() < calls.len() {
         return (Err(Refusal::LogFull), source);
     }
-    let mut run = Run::open(tables, n, source);
+    let mut run = Run::open(handed, source);
     run.enter_all(calls, log);
     (Ok(()), run.close())
 }

@@ -6,8 +6,6 @@ ghost use Rattle.runs.specs.declared.Answer.TheVariants.{RanOut};
 
 use crate::Run;
 use draws::source::DrawSource;
-use offers::hold::{goal_by, top};
-use offers::possible::possible_changes;
 use rows::refusal::Refusal;
 use runs::{Answer, Standing};
 use schedulers::scheduler::Scheduler;
@@ -19,8 +17,8 @@ impl<'p, D: DrawSource> Run<'p, D> {
         ensures ended { view_of D.DrawSource.coming self.new ≡ ran_out (plan_for self.old) (view_of D.DrawSource.coming self.old) }
         ensures kept { Kept self.old self.new }
     {
-        let last = top(&self.plan, self.stage, &self.region);
-        self.standing = if goal_by(&self.plan, self.stage, &self.region, last) {
+        let last = self.plan.top(&self.at);
+        self.standing = if self.plan.goal_by(&self.at, last) {
             Standing::Reached
         } else {
             Standing::Stuck
@@ -38,12 +36,12 @@ impl<'p, D: DrawSource> Run<'p, D> {
         if !self.standing.is_open() {
             return Err(Refusal::RunNotOpen);
         }
-        let list = possible_changes(&self.plan, self.stage, &self.region);
-        if list.len == 0 {
+        let list = self.plan.possible_changes(&self.at);
+        if list.is_empty() {
             return Ok(self.run_out());
         }
-        let offers = &list.items[0..list.len];
-        let (place, wait) = scheduler.choose(self.stage, &self.region, offers);
+        let offers = list.as_slice();
+        let (place, wait) = scheduler.choose(&self.at, offers);
         self.take(offers[place].change, wait)
     }
 }

@@ -14,12 +14,10 @@ use crate::arrival::judged;
 use crate::lookup::{change_of, outcomes_of};
 use draws::source::DrawSource;
 use draws::ticket::pick;
-use offers::hold::{goal_by, top};
-use offers::possible::guard_span;
 use region::Region;
 use rows::refusal::Refusal;
 use rows::tables::{ChangeRow, OutcomeRow};
-use runs::{Answer, Standing};
+use runs::{Answer, Standing, State};
 
 impl<'p, D: DrawSource> Run<'p, D> {
     // The row of a change that may be taken after a wait, or why it may not.
@@ -29,62 +27,68 @@ impl<'p, D: DrawSource> Run<'p, D> {
         if !self.standing.is_open() {
             return Err(Refusal::RunNotOpen);
         }
-        let Some(row) = change_of(&self.plan, self.stage, change) else {
+        let Some(row) = change_of(&self.plan, self.at.stage, change) else {
             return Err(Refusal::ChangeNotOfStage);
         };
-        let last = top(&self.plan, self.stage, &self.region);
+        let last = self.plan.top(&self.at);
         if wait > last {
             return Err(Refusal::WaitOutsideHold);
         }
-        if !guard_span(&self.plan, &self.region, last, row).has(wait) {
+        if !self.plan.guard_span(&self.at.region, last, row).has(wait) {
             return Err(Refusal::GuardForbidsWait);
         }
         Ok(row)
     }
 
     // The region after a wait of the hold interval, by which no timer passes its ceiling.
+    // That the wait is in the hold interval is a fact about the run and the wait together, so each step of a take asks for it, and no type of either keeps it.
     fn waited(&self, wait: u32) -> Region
-        requires { wait ≤ top (plan_for self.now) self.now.stage (viewed self.now.region) }
-        ensures later { viewed result ≡ wait_of wait (viewed self.now.region) }
+        requires { wait ≤ top (plan_for self.now) self.now.at.stage (viewed self.now.at.region) }
+        ensures later { viewed result ≡ wait_of wait (viewed self.now.at.region) }
         ensures in_bounds { ∥ InBounds (plan_for self.now) (viewed result) ∥₁ }
     {
-        let mut region = self.region;
+        let mut region = self.at.region;
+        // Not refused: a wait of the hold interval passes no ceiling.
         let _ = region.wait(wait, self.plan.tables().timers);
         region
     }
 
     // Whether the goal is on at some step from 0 to a wait of the hold interval.
     fn meets(&self, wait: u32) -> bool
-        requires { wait ≤ top (plan_for self.now) self.now.stage (viewed self.now.region) }
-        ensures { result ≡ goal_by (plan_for self.now) self.now.stage (viewed self.now.region) wait }
+        requires { wait ≤ top (plan_for self.now) self.now.at.stage (viewed self.now.at.region) }
+        ensures { result ≡ goal_by (plan_for self.now) self.now.at.stage (viewed self.now.at.region) wait }
     {
-        goal_by(&self.plan, self.stage, &self.region, wait)
+        self.plan.goal_by(&self.at, wait)
     }
 
     // Lets the whole wait pass. The goal is met on its way.
     fn meet(&mut self, wait: u32) -> Answer
-        requires { wait ≤ top (plan_for self.old) self.old.stage (viewed self.old.region) }
+        requires { wait ≤ top (plan_for self.old) self.old.at.stage (viewed self.old.at.region) }
         ensures answer { result ≡ Met wait }
         ensures reached { view_of D.DrawSource.coming self.new ≡ at_goal (view_of D.DrawSource.coming self.old) wait }
         ensures kept { Kept self.old self.new }
     {
-        self.region = self.waited(wait);
+        self.at.region = self.waited(wait);
         self.standing = Standing::Reached;
         Answer::Met { wait }
     }
 
     // Lets the wait pass, sets the outcome's timers to zero, and arrives in its stage.
     fn arrive(&mut self, wait: u32, outcome: OutcomeRow)
-        requires in_hold { wait ≤ top (plan_for self.old) self.old.stage (viewed self.old.region) }
+        requires in_hold { wait ≤ top (plan_for self.old) self.old.at.stage (viewed self.old.at.region) }
         requires an_outcome { SoundOutcome (rows_of self.old.plan) outcome }
         ensures arrived { view_of D.DrawSource.coming self.new ≡ arriving (plan_for self.old) (view_of D.DrawSource.coming self.old) wait (outcome_of_row (rows_of self.old.plan) outcome) }
         ensures kept { Kept self.old self.new }
     {
         let mut region = self.waited(wait);
+        // Not refused: a sound outcome resets timers of the plan.
         let _ = region.reset(outcome.resets);
-        self.standing = judged(&self.plan, outcome.stage, &region);
-        self.stage = outcome.stage;
-        self.region = region;
+        let at = State {
+            stage: outcome.stage,
+            region,
+        };
+        self.standing = judged(&self.plan, &at);
+        self.at = at;
     }
 
     // Draws, and makes the change with the outcome that the draw picks.

@@ -20,7 +20,7 @@ use Rattle.runs.proofs.Plans.{sound_outcome}
 use Rattle.runs.proofs.Permits.{top_counts}
 use Rattle.runs.proofs.Taking.{Fits, take_cases, take_met, take_no_draw, take_taken}
 use Rattle.runs.proofs.Choosing.{step_not_open, step_runs_out, step_takes, step_cases}
-use Rattle.runs.proofs.Opening.{record_of_zeros}
+use Rattle.theory.proofs.Zeros.{record_of_zeros}
 
 pub inv_bounds : (plan : Plan) (run : Run) → Inv plan run → InBounds plan run.region
 inv_bounds plan run h = record { valid = h.valid; as_many = h.as_many; under = h.under }

@@ -5,7 +5,9 @@ ghost use Rattle.std.specs.Prelude.{◌≡◌};
 ghost use Rattle.runs.specs.Runs.{is_open};
 ghost use Rattle.runs.specs.Telling.{EveryListOfCallsTellsATickRun, EveryTickRunIsTold, AStepChoosesAsItsSchedulerMeans, EveryCallKeepsARunInBounds};
 
-// Where a run stands: going on, at its goal, in a stage to avoid, or with nothing left to happen.
+use region::Region;
+
+// How a run stands: going on, at its goal, in a stage to avoid, or with nothing left to happen.
 #[derive(Clone, Copy, Debug, PartialEq, Eq)]
 pub enum Standing {
     Open,
@@ -19,13 +21,15 @@ impl Standing {
     pub fn is_open(self) -> bool
         ensures { result ≡ is_open self }
     {
-        match self {
-            Standing::Open => true,
-            Standing::Reached => false,
-            Standing::Failed => false,
-            Standing::Stuck => false,
-        }
+        matches!(self, Standing::Open)
     }
+}
+
+// Where a run is: its stage, and the region of its timers.
+#[derive(Clone, Copy, Debug)]
+pub struct State {
+    pub stage: u16,
+    pub region: Region,
 }
 
 // A change that may happen, with the first and the last wait after which it may.
@@ -51,29 +55,24 @@ pub enum Answer {
 }
 
 // Every list of calls tells some tick run, with one fineness for the whole list.
-pub fn every_list_of_calls_tells_a_tick_run() -> u8
+#[tactic(auto, using(crate::proofs::Whole::every_list_of_calls_tells_a_tick_run))]
+pub fn every_list_of_calls_tells_a_tick_run()
     ensures { EveryListOfCallsTellsATickRun }
-{
-    0
-}
+{}
 
 // Every tick run is told by granted calls.
-pub fn every_tick_run_is_told() -> u8
+pub fn every_tick_run_is_told()
     ensures { EveryTickRunIsTold }
-{
-    0
-}
+{}
 
 // A step is refused with 8 or 12 only, and makes the choice of its scheduler.
-pub fn a_step_chooses_as_its_scheduler_means() -> u8
+#[tactic(auto, using(crate::proofs::Choosing::a_step_chooses_as_its_scheduler_means))]
+pub fn a_step_chooses_as_its_scheduler_means()
     ensures { AStepChoosesAsItsSchedulerMeans }
-{
-    0
-}
+{}
 
 // Every run on a sound plan keeps its timers under their ceilings and in a stage of the plan.
-pub fn every_call_keeps_a_run_in_bounds() -> u8
+#[tactic(auto, using(crate::proofs::Bounds::every_call_keeps_a_run_in_bounds))]
+pub fn every_call_keeps_a_run_in_bounds()
     ensures { EveryCallKeepsARunInBounds }
-{
-    0
-}
+{}

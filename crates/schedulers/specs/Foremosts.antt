@@ -1,12 +1,13 @@
 -- The foremost entry is one that no other is ahead of, and it is ahead of every earlier one.
-use Rattle.std.specs.Prelude.{◌≡◌, ℕ, zero, suc, ◌<◌, ◌≤◌, Bool, true, false, cond, ◌⊎◌, List, [], ◌∷◌, length, slice_index_or, refl}
+use Rattle.std.specs.Prelude.{◌≡◌, ℕ, zero, suc, ◌<◌, ◌≤◌, Bool, true, false, cond, ◌⊎◌, List, [], ◌∷◌, length, slice_index_or, nat_lt, refl}
 use Rattle.std.proofs.Common.{inl, inr, sym, ap, ◌∙◌, subst, arith}
-use Rattle.std.proofs.lemmas.List.MinMax.{IsFirstBest-unique}
+use Rattle.std.proofs.lemmas.List.MinMax.{IsFirstBest-unique, IsStrictWeakOrder-by_number, IsStrictWeakOrder-flip}
 use Rattle.std.proofs.ByRecursion.{All-get_or}
 use Rattle.std.proofs.lemmas.List.{get_or_default}
 use Rattle.std.proofs.lemmas.Bool.{cases_Bool}
 use Rattle.std.specs.Cmp.{IsStrictWeakOrder}
 use Rattle.std.specs.List.{IsFirstBest}
+use Rattle.theory.specs.Records.{Record}
 use Rattle.runs.specs.declared.Offer.{Offer}
 use Rattle.runs.specs.Runs.{InRange, blank_offer}
 use Rattle.schedulers.specs.Foremost.{foremost_of}
@@ -87,15 +88,31 @@ pub foremost_within : {X : Type 0} (ahead : X → X → Bool) → IsStrictWeakOr
 foremost_within ahead o [] h = absurd (omega arith)
 foremost_within ahead o (x ∷ xs) h = (foremost_is_best ahead o x xs).0
 
+-- offers are ranked by their lowest waits, and by their highest
+pub before_ranks : IsStrictWeakOrder comes_before
+before_ranks = IsStrictWeakOrder-by_number (λ (o : Offer). o.lowest)
+
+pub after_ranks : IsStrictWeakOrder comes_after
+after_ranks = IsStrictWeakOrder-flip (λ (a b : Offer). nat_lt a.highest b.highest) (IsStrictWeakOrder-by_number (λ (o : Offer). o.highest))
+
 -- a scheduler that takes one end of the foremost offer keeps in range
-pub earliest_in_range : IsStrictWeakOrder comes_before → InRange earliest
-earliest_in_range o i r os some ordered =
-    let within = foremost_within comes_before o os some in
+pub earliest_in_range : InRange earliest
+earliest_in_range i r os some ordered =
+    let within = foremost_within comes_before before_ranks os some in
     let order = All-get_or (λ (x : Offer). x.lowest ≤ x.highest) os (foremost_of comes_before os) blank_offer within ordered in
     (within, omega arith, order)
 
-pub latest_in_range : IsStrictWeakOrder comes_after → InRange latest
-latest_in_range o i r os some ordered =
-    let within = foremost_within comes_after o os some in
+pub latest_in_range : InRange latest
+latest_in_range i r os some ordered =
+    let within = foremost_within comes_after after_ranks os some in
     let order = All-get_or (λ (x : Offer). x.lowest ≤ x.highest) os (foremost_of comes_after os) blank_offer within ordered in
     (within, order, omega arith)
+
+-- and without an offer it names the first place and no wait
+pub earliest_none : (i : ℕ) (r : Record) → earliest i r [] ≡ (0, 0)
+unfolding foremost_of
+earliest_none i r = refl
+
+pub latest_none : (i : ℕ) (r : Record) → latest i r [] ≡ (0, 0)
+unfolding foremost_of
+latest_none i r = refl

@@ -1,5 +1,5 @@
 -- The hash that a sampled scheduler chooses by.
-use Rattle.std.specs.Prelude.{ℕ, ◌+◌, ◌*◌, ◌/◌, ◌%◌, ◌^◌, cond, List, [], ◌∷◌, ◌++◌, fold, bit_xor}
+use Rattle.std.specs.Prelude.{ℕ, ◌*◌, ◌/◌, ◌%◌, ◌^◌, cond, List, [], ◌∷◌, ◌++◌, fold, bit_xor}
 use Rattle.std.specs.List.{flat_map}
 use Rattle.theory.specs.Records.{Record, Timer}
 
@@ -27,7 +27,3 @@ timer_bytes t = two_bytes t.seconds ++ t.rank ∷ []
 abbrev pub sample_bytes : ℕ → ℕ → Record → List ℕ
 sample_bytes id stage r =
     four_bytes id ++ (two_bytes stage ++ (cond r.whole 1 0 ∷ r.classes ∷ flat_map timer_bytes r.timers))
-
--- the number after h in the congruential sequence
-abbrev pub following : ℕ → ℕ
-following h = (1664525 * h + 1013904223) % 2 ^ 32

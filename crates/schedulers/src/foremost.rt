@@ -5,6 +5,7 @@ ghost use Rattle.std.specs.List.{IsFirstBest};
 ghost use Rattle.schedulers.specs.Foremost.{foremost_of};
 
 // A total ranking: which of two entries is ahead of the other, if one is.
+// It is a type of its own and no closure, so that its order is proved once, beside it: of a closure each caller of `foremost` would owe that proof.
 pub trait Ranking<T> {
     ghost ahead: { Self → T → T → Bool };
 
@@ -22,6 +23,7 @@ pub fn foremost<T, R: Ranking<T>>(entries: &[T], ranking: &R) -> Option<usize>
         return None;
     }
     let mut place = 0;
+    // From 1 on, since the first entry is the foremost so far. Tried: `iter().enumerate().skip(1)`, which left the bound of `entries[place]` unproved.
     for i in 1..entries.len() {
         if ranking.beats(&entries[i], &entries[place]) {
             place = i;

@@ -4,7 +4,7 @@ use crate::hash::hash;
 use crate::sampled::{Sampled, next};
 use crate::scheduler::Scheduler;
 use region::Region;
-use runs::Offer;
+use runs::{Offer, State};
 
 #[test]
 fn the_published_vectors_match(rt: HostRuntime) {
@@ -24,21 +24,27 @@ fn the_published_vectors_match(rt: HostRuntime) {
 
 #[test]
 fn identifiers_hash_with_stage_and_region(rt: HostRuntime) {
-    let region = Region::opening(2);
+    let at = State {
+        stage: 0,
+        region: Region::opening(2),
+    };
     let cases = [
         (0, 204258327, 199535242),
         (1, 2006175416, 1665516215),
         (3, 2855398242, 3243438937),
     ];
     for (identifier, h, after) in cases {
-        assert_eq!(rt; Sampled { identifier }.hash_of(0, &region), h);
+        assert_eq!(rt; Sampled { identifier }.hash_of(&at), h);
         assert_eq!(rt; next(h), after);
     }
 }
 
 #[test]
 fn ties_go_to_the_first_offer(rt: HostRuntime) {
-    let region = Region::opening(1);
+    let at = State {
+        stage: 0,
+        region: Region::opening(1),
+    };
     let offers = [
         Offer {
             change: 0,
@@ -56,7 +62,7 @@ fn ties_go_to_the_first_offer(rt: HostRuntime) {
             highest: 9,
         },
     ];
-    assert_eq!(rt; Earliest.choose(0, &region, &offers), (1, 2));
-    assert_eq!(rt; Latest.choose(0, &region, &offers), (1, 9));
-    assert_eq!(rt; Earliest.choose(0, &region, &[]), (0, 0));
+    assert_eq!(rt; Earliest.choose(&at, &offers), (1, 2));
+    assert_eq!(rt; Latest.choose(&at, &offers), (1, 9));
+    assert_eq!(rt; Earliest.choose(&at, &[]), (0, 0));
 }

@@ -6,6 +6,7 @@ pub mod Counts
 pub mod Moments
 pub mod Order
 pub mod Resets
+pub mod Zeros
 pub mod Multiples
 pub mod Validity
 pub mod Regions

@@ -1,4 +1,4 @@
-// Lines that are calls, and lines that are not.
+// Lines that are calls, and lines that are not. The calls are matched, since calls have no equality.
 use crate::calls::call;
 use run::call::Call;
 use schedulers::chooser::Chooser;

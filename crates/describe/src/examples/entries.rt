@@ -6,7 +6,7 @@ use region::Region;
 use rows::refusal::Refusal;
 use rows::tables::TimerRow;
 use run::call::{Entry, Reply};
-use runs::{Answer, Offer, Standing};
+use runs::{Answer, Offer, Standing, State};
 use std::alloc::Global;
 use std::test::Fail;
 
@@ -17,8 +17,7 @@ fn entry(reply: Reply, standing: Standing) -> Result<Entry, Fail> {
     region.reset(1)?;
     Ok(Entry {
         reply,
-        stage: 1,
-        region,
+        at: State { stage: 1, region },
         standing,
     })
 }
@@ -52,12 +51,12 @@ fn an_entry_of_each_kind(rt: HostRuntime) -> Result<(), Fail> {
     );
     let mut list = OfferList::none();
     assert!(rt; shown(heap, Reply::Offered(list), "offers none")?);
-    list.len = 2;
-    list.items[1] = Offer {
+    list.push(Offer::default());
+    list.push(Offer {
         change: 3,
         lowest: 8,
         highest: 12,
-    };
+    });
     assert!(rt; shown(heap, Reply::Offered(list), "offers 0:0-0 3:8-12")?);
     assert!(rt; shown(heap, Reply::Stands(Standing::Failed), "standing failed")?);
     Ok(())

@@ -1,41 +1,27 @@
 // Counts at their limits and one past them, and tables that are one row too small.
-use crate::examples::files::EXAMPLE;
-use reader::read::{TablesMut, read};
+use crate::examples::files::{EXAMPLE, EXAMPLE_COUNTS};
+use reader::owned::OwnedTables;
 use rows::fault::{Fault, Where};
 use rows::refusal::Refusal;
 use rows::section::{Counts, SectionName};
-use rows::tables::{ChangeRow, ComparisonRow, GoalRow, OutcomeRow, StageRow, TimerRow};
-use std::alloc::Global;
+use std::alloc::{AllocError, Global};
 use std::test::Fail;
 
 // Reads the example up to a section's count, with that count, into tables of some room.
 fn read_count(
     heap: Global,
-    n: &Counts,
+    n: Counts,
     at: usize,
     count: u16,
-) -> Result<Result<Counts, Fault>, Fail> {
+) -> Result<Result<Counts, Fault>, AllocError> {
     let mut bytes = EXAMPLE;
     let [high, low] = count.to_be_bytes();
     if at < 103 {
         bytes[at] = high;
         bytes[at + 1] = low;
     }
-    let mut timers = vec![in heap; TimerRow::default(); n.timers]?;
-    let mut comparisons = vec![in heap; ComparisonRow::default(); n.comparisons]?;
-    let mut stages = vec![in heap; StageRow::default(); n.stages]?;
-    let mut changes = vec![in heap; ChangeRow::default(); n.changes]?;
-    let mut outcomes = vec![in heap; OutcomeRow::default(); n.outcomes]?;
-    let mut goals = vec![in heap; GoalRow::default(); n.goals]?;
-    let tables = TablesMut {
-        timers: &mut timers,
-        comparisons: &mut comparisons,
-        stages: &mut stages,
-        changes: &mut changes,
-        outcomes: &mut outcomes,
-        goals: &mut goals,
-    };
-    Ok(read(&bytes[0..(at.min(102)) + 2], tables))
+    let mut tables = OwnedTables::of(heap, n)?;
+    Ok(tables.read(&bytes[0..(at.min(102)) + 2]))
 }
 
 const LARGEST: Counts = Counts {
@@ -66,10 +52,10 @@ fn a_count_at_its_limit_goes_on_to_the_records(rt: HostRuntime) -> Result<(), Fa
             refusal: Refusal::CountOffLimits,
             at: Where::Section(name),
         });
-        assert_eq!(rt; read_count(rt.alloc(), &LARGEST, at, least)?, ends);
-        assert_eq!(rt; read_count(rt.alloc(), &LARGEST, at, most)?, ends);
+        assert_eq!(rt; read_count(rt.alloc(), LARGEST, at, least)?, ends);
+        assert_eq!(rt; read_count(rt.alloc(), LARGEST, at, most)?, ends);
         assert_eq!(rt;
-            read_count(rt.alloc(), &LARGEST, at, most.saturating_add(1))?,
+            read_count(rt.alloc(), LARGEST, at, most.saturating_add(1))?,
             off
         );
     }
@@ -78,14 +64,7 @@ fn a_count_at_its_limit_goes_on_to_the_records(rt: HostRuntime) -> Result<(), Fa
 
 #[test]
 fn a_table_one_row_too_small_is_refused(rt: HostRuntime) -> Result<(), Fail> {
-    let full = Counts {
-        timers: 2,
-        comparisons: 5,
-        stages: 2,
-        changes: 2,
-        outcomes: 3,
-        goals: 1,
-    };
+    let full = EXAMPLE_COUNTS;
     let cases = [
         (Counts { timers: 1, ..full }, SectionName::Timers),
         (
@@ -111,7 +90,7 @@ fn a_table_one_row_too_small_is_refused(rt: HostRuntime) -> Result<(), Fail> {
             refusal: Refusal::TableTooSmall,
             at: Where::Section(name),
         });
-        assert_eq!(rt; read_count(rt.alloc(), &room, 98, 1)?, small);
+        assert_eq!(rt; read_count(rt.alloc(), room, 98, 1)?, small);
     }
     Ok(())
 }

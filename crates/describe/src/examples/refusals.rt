@@ -2,169 +2,84 @@
 use crate::examples::files::read_altered;
 use rows::fault::{Fault, Where};
 use rows::refusal::Refusal;
-use rows::section::{Counts, SectionName};
+use rows::section::SectionName;
+use std::test::Fail;
 
-const KEEP: (usize, u8) = (105, 0);
-
-fn broken(len: usize, edits: [(usize, u8); 3], refusal: Refusal, at: Where) -> bool {
-    read_altered(len, edits) == Err(Fault { refusal, at })
+#[test]
+fn the_layout_comes_first(rt: HostRuntime) -> Result<(), Fail> {
+    let heap = rt.alloc();
+    assert!(rt; read_altered(heap, 104, &[])?.is_ok());
+    let timers = Where::Section(SectionName::Timers);
+    let goal = Where::Section(SectionName::Goal);
+    // the length of the file, the bytes altered, and the rule that breaks
+    let cases: [(usize, &[(usize, u8)], Refusal, Where); 7] = [
+        (1, &[], Refusal::FileEnds, timers),
+        (5, &[], Refusal::FileEnds, timers),
+        (103, &[], Refusal::FileEnds, goal),
+        // a count off its limits wins over a table too small and over the end of the file
+        (2, &[(1, 17)], Refusal::CountOffLimits, timers),
+        (2, &[(1, 0)], Refusal::CountOffLimits, timers),
+        // a table too small wins over the end of the file
+        (2, &[(1, 3)], Refusal::TableTooSmall, timers),
+        // bytes behind the last section win over the records
+        (105, &[(3, 0)], Refusal::BytesFollow, Where::File),
+    ];
+    for (len, edits, refusal, at) in cases {
+        assert_eq!(rt; read_altered(heap, len, edits)?, Err(Fault { refusal, at }));
+    }
+    Ok(())
 }
 
 #[test]
-fn the_layout_comes_first(rt: HostRuntime) {
-    assert!(rt; read_altered(104, [KEEP, KEEP, KEEP]).is_ok());
-    assert!(rt;
-        broken(
-            1,
-            [KEEP, KEEP, KEEP],
-            Refusal::FileEnds,
-            Where::Section(SectionName::Timers),
-        )
-    );
-    assert!(rt;
-        broken(
-            5,
-            [KEEP, KEEP, KEEP],
-            Refusal::FileEnds,
-            Where::Section(SectionName::Timers),
-        )
-    );
-    assert!(rt;
-        broken(
-            103,
-            [KEEP, KEEP, KEEP],
-            Refusal::FileEnds,
-            Where::Section(SectionName::Goal),
-        )
-    );
-    // a count off its limits wins over a table too small and over the end of the file
-    assert!(rt;
-        broken(
-            2,
-            [(1, 17), KEEP, KEEP],
-            Refusal::CountOffLimits,
-            Where::Section(SectionName::Timers),
-        )
-    );
-    assert!(rt;
-        broken(
-            2,
-            [(1, 0), KEEP, KEEP],
-            Refusal::CountOffLimits,
-            Where::Section(SectionName::Timers),
-        )
-    );
-    // a table too small wins over the end of the file
-    assert!(rt;
-        broken(
-            2,
-            [(1, 3), KEEP, KEEP],
-            Refusal::TableTooSmall,
-            Where::Section(SectionName::Timers),
-        )
-    );
-    // bytes behind the last section win over the records
-    assert!(rt;
-        broken(
-            105,
-            [(3, 0), KEEP, KEEP],
-            Refusal::BytesFollow,
-            Where::File,
-        )
-    );
-}
-
-#[test]
-fn records_break_their_rules_in_order(rt: HostRuntime) {
+fn records_break_their_rules_in_order(rt: HostRuntime) -> Result<(), Fail> {
+    let heap = rt.alloc();
     let timer = Where::Record(SectionName::Timers, 1);
-    assert!(rt; broken(104, [(5, 0), (8, 8), KEEP], Refusal::BadField, timer));
     let comparison = Where::Record(SectionName::Comparisons, 0);
-    assert!(rt; broken(104, [(8, 8), (9, 2), KEEP], Refusal::BadField, comparison,));
-    assert!(rt; broken(104, [(10, 1), KEEP, KEEP], Refusal::BadField, comparison,));
-    assert!(rt; broken(104, [(11, 1), KEEP, KEEP], Refusal::BadField, comparison,));
-    assert!(rt; broken(104, [(9, 2), (14, 8), KEEP], Refusal::NotThere, comparison,));
-    assert!(rt; broken(104, [(8, 4), (10, 2), KEEP], Refusal::NotThere, comparison,));
     let stage = Where::Record(SectionName::Stages, 0);
-    assert!(rt;
-        broken(
-            104,
-            [(41, 4), (45, 33), (42, 255)],
-            Refusal::BadField,
-            stage,
-        )
-    );
-    assert!(rt;
-        broken(
-            104,
-            [(45, 33), (42, 255), KEEP],
-            Refusal::CountOffLimits,
-            stage,
-        )
-    );
-    assert!(rt;
-        broken(
-            104,
-            [(49, 129), KEEP, KEEP],
-            Refusal::CountOffLimits,
-            stage,
-        )
-    );
-    assert!(rt; broken(104, [(43, 5), KEEP, KEEP], Refusal::NotThere, stage));
-    assert!(rt; broken(104, [(47, 2), KEEP, KEEP], Refusal::NotThere, stage));
+    let cases: [(&[(usize, u8)], Refusal, Where); 11] = [
+        (&[(5, 0), (8, 8)], Refusal::BadField, timer),
+        (&[(8, 8), (9, 2)], Refusal::BadField, comparison),
+        (&[(10, 1)], Refusal::BadField, comparison),
+        (&[(11, 1)], Refusal::BadField, comparison),
+        (&[(9, 2), (14, 8)], Refusal::NotThere, comparison),
+        (&[(8, 4), (10, 2)], Refusal::NotThere, comparison),
+        (&[(41, 4), (45, 33), (42, 255)], Refusal::BadField, stage),
+        (&[(45, 33), (42, 255)], Refusal::CountOffLimits, stage),
+        (&[(49, 129)], Refusal::CountOffLimits, stage),
+        (&[(43, 5)], Refusal::NotThere, stage),
+        (&[(47, 2)], Refusal::NotThere, stage),
+    ];
+    for (edits, refusal, at) in cases {
+        assert_eq!(rt; read_altered(heap, 104, edits)?, Err(Fault { refusal, at }));
+    }
+    Ok(())
 }
 
 #[test]
-fn changes_and_outcomes_break_their_rules_in_order(rt: HostRuntime) {
+fn changes_and_outcomes_break_their_rules_in_order(rt: HostRuntime) -> Result<(), Fail> {
+    let heap = rt.alloc();
     let change = Where::Record(SectionName::Changes, 0);
-    assert!(rt;
-        broken(
-            104,
-            [(65, 33), KEEP, KEEP],
-            Refusal::CountOffLimits,
-            change,
-        )
-    );
-    assert!(rt; broken(104, [(69, 0), KEEP, KEEP], Refusal::CountOffLimits, change,));
-    assert!(rt;
-        broken(
-            104,
-            [(69, 65), KEEP, KEEP],
-            Refusal::CountOffLimits,
-            change,
-        )
-    );
-    assert!(rt; broken(104, [(69, 4), (80, 255), KEEP], Refusal::NotThere, change,));
-    // the sum of the weights is the change's fault, a weight of 0 the outcome's
-    assert!(rt;
-        broken(
-            104,
-            [(80, 255), (81, 255), (93, 0)],
-            Refusal::BadWeight,
-            change,
-        )
-    );
-    assert!(rt;
-        broken(
-            104,
-            [(81, 0), KEEP, KEEP],
-            Refusal::BadWeight,
-            Where::Record(SectionName::Outcomes, 0),
-        )
-    );
+    let first_outcome = Where::Record(SectionName::Outcomes, 0);
     let outcome = Where::Record(SectionName::Outcomes, 1);
-    assert!(rt; broken(104, [(87, 0), (89, 2), KEEP], Refusal::NotThere, outcome,));
-    assert!(rt; broken(104, [(91, 4), KEEP, KEEP], Refusal::NotThere, outcome));
     let goal = Where::Record(SectionName::Goal, 0);
-    assert!(rt;
-        broken(
-            104,
-            [(103, 33), (101, 9), KEEP],
-            Refusal::CountOffLimits,
-            goal,
-        )
-    );
-    assert!(rt; broken(104, [(101, 5), KEEP, KEEP], Refusal::NotThere, goal));
+    let cases: [(&[(usize, u8)], Refusal, Where); 10] = [
+        (&[(65, 33)], Refusal::CountOffLimits, change),
+        (&[(69, 0)], Refusal::CountOffLimits, change),
+        (&[(69, 65)], Refusal::CountOffLimits, change),
+        (&[(69, 4), (80, 255)], Refusal::NotThere, change),
+        // the sum of the weights is the change's fault, a weight of 0 the outcome's
+        (&[(80, 255), (81, 255), (93, 0)], Refusal::BadWeight, change),
+        (&[(81, 0)], Refusal::BadWeight, first_outcome),
+        (&[(87, 0), (89, 2)], Refusal::NotThere, outcome),
+        (&[(91, 4)], Refusal::NotThere, outcome),
+        (&[(103, 33), (101, 9)], Refusal::CountOffLimits, goal),
+        (&[(101, 5)], Refusal::NotThere, goal),
+    ];
+    for (edits, refusal, at) in cases {
+        assert_eq!(rt; read_altered(heap, 104, edits)?, Err(Fault { refusal, at }));
+    }
     // an empty list names nothing, and the weights may sum to 65,535
-    assert!(rt; read_altered(104, [(103, 0), (101, 255), KEEP]).is_ok());
-    assert!(rt; read_altered(104, [(80, 255), (81, 254), KEEP]).is_ok());
+    assert!(rt; read_altered(heap, 104, &[(103, 0), (101, 255)])?.is_ok());
+    assert!(rt; read_altered(heap, 104, &[(80, 255), (81, 254)])?.is_ok());
+    Ok(())
 }

@@ -1,7 +1,8 @@
 // Runs of the example plan, of one whose goal is met on the way, and of tables that do not pass.
+use crate::examples::files::EXAMPLE_COUNTS;
 use draws::tape::Tape;
 use logs::Log;
-use plan::handed::Tables;
+use plan::handed::{Handed, Tables};
 use rows::refusal::Refusal;
 use rows::section::Counts;
 use rows::tables::{ChangeRow, ComparisonRow, GoalRow, OutcomeRow, StageRow, TimerRow};
@@ -27,9 +28,8 @@ fn compare(kind: u8, first: u8, constant: u16) -> ComparisonRow {
     ComparisonRow {
         kind,
         first,
-        second: 0,
-        filler: 0,
         constant,
+        ..ComparisonRow::default()
     }
 }
 
@@ -82,24 +82,24 @@ fn two_stages(mark: u16, first: u16, comparisons: u16) -> Rows {
     }
 }
 
-fn tables<'a>(rows: &'a Rows) -> Tables<'a> {
-    Tables {
+fn handed<'a>(rows: &'a Rows) -> Handed<'a> {
+    let tables = Tables {
         timers: &TIMERS,
         comparisons: &rows.comparisons,
         stages: &rows.stages,
         changes: &rows.changes,
         outcomes: &rows.outcomes,
         goals: &rows.goals,
+    };
+    Handed {
+        tables,
+        counts: COUNTS,
     }
 }
 
 const COUNTS: Counts = Counts {
-    timers: 2,
     comparisons: 7,
-    stages: 2,
-    changes: 2,
-    outcomes: 3,
-    goals: 1,
+    ..EXAMPLE_COUNTS
 };
 
 // The answer of a change that was made.
@@ -114,33 +114,31 @@ fn taken(change: u16, wait: u32, outcome: u16) -> Result<Answer, Refusal> {
 #[test]
 fn refusals_come_in_their_order_and_change_nothing(rt: HostRuntime) {
     let rows = two_stages(0, 4, 1);
-    let mut run = Run::open(tables(&rows), COUNTS, Tape::new(&[3221225472], 1));
+    let mut run = Run::open(handed(&rows), Tape::new(&[3221225472], 1));
     assert_eq!(rt; run.take(0, 3), Err(Refusal::GuardForbidsWait));
     assert_eq!(rt; run.take(0, 7), Err(Refusal::WaitOutsideHold));
     assert_eq!(rt; run.take(1, 4), Err(Refusal::ChangeNotOfStage));
     assert_eq!(rt; run.take(0, 4), taken(0, 4, 1));
     assert_eq!(rt; run.standing(), Standing::Reached);
-    assert_eq!(rt; run.offers().len, 0);
+    assert_eq!(rt; run.offers().len(), 0);
     assert_eq!(rt; run.take(1, 4), Err(Refusal::RunNotOpen));
 }
 
 #[test]
 fn three_takes_use_three_draws(rt: HostRuntime) {
     let rows = two_stages(0, 4, 1);
-    let mut run = Run::open(tables(&rows), COUNTS, Tape::new(&[0, 3221225472, 0], 3));
+    let mut run = Run::open(handed(&rows), Tape::new(&[0, 3221225472, 0], 3));
     assert_eq!(rt; run.take(0, 4), taken(0, 4, 0));
     assert_eq!(rt; run.take(0, 6), taken(0, 6, 1));
     assert_eq!(rt; run.take(1, 3), taken(1, 3, 2));
     let offers = run.offers();
-    assert_eq!(rt; offers.len, 1);
-    assert_eq!(rt;
-        offers.items[0],
-        Offer {
-            change: 0,
-            lowest: 8,
-            highest: 12,
-        }
-    );
+    assert_eq!(rt; offers.len(), 1);
+    let offer = Offer {
+        change: 0,
+        lowest: 8,
+        highest: 12,
+    };
+    assert_eq!(rt; offers.as_slice().first(), Some(&offer));
     assert_eq!(rt; run.step(&Earliest), Err(Refusal::NoDrawToCome));
     assert_eq!(rt; run.standing(), Standing::Open);
 }
@@ -148,7 +146,7 @@ fn three_takes_use_three_draws(rt: HostRuntime) {
 #[test]
 fn a_goal_met_on_the_way_needs_no_draw(rt: HostRuntime) {
     let rows = two_stages(1, 5, 2);
-    let mut run = Run::open(tables(&rows), COUNTS, Tape::new(&[], 1));
+    let mut run = Run::open(handed(&rows), Tape::new(&[], 1));
     assert_eq!(rt; run.take(0, 4), Ok(Answer::Met { wait: 4 }));
     assert_eq!(rt; run.standing(), Standing::Reached);
 }
@@ -156,7 +154,7 @@ fn a_goal_met_on_the_way_needs_no_draw(rt: HostRuntime) {
 #[test]
 fn tables_that_do_not_pass_run_out_at_once(rt: HostRuntime) {
     let rows = two_stages(4, 4, 1);
-    let mut run = Run::open(tables(&rows), COUNTS, Tape::new(&[], 1));
+    let mut run = Run::open(handed(&rows), Tape::new(&[], 1));
     assert_eq!(rt; run.step(&Earliest), Ok(Answer::RanOut));
     assert_eq!(rt; run.standing(), Standing::Stuck);
     assert_eq!(rt; run.step(&Earliest), Err(Refusal::RunNotOpen));
@@ -168,10 +166,10 @@ fn a_replay_that_does_not_fit_its_log_does_nothing(rt: HostRuntime) {
     let mut entries = [Entry::blank(); 1];
     let mut log = Log::new(&mut entries);
     let calls = [Call::Step(Earliest), Call::Offers];
-    let (refused, tape) = replay(tables(&rows), COUNTS, Tape::new(&[0], 1), &calls, &mut log);
+    let (refused, tape) = replay(handed(&rows), Tape::new(&[0], 1), &calls, &mut log);
     assert_eq!(rt; refused, Err(Refusal::LogFull));
     assert_eq!(rt; log.len(), 0);
-    let (made, _) = replay(tables(&rows), COUNTS, tape, &calls[0..1], &mut log);
+    let (made, _) = replay(handed(&rows), tape, &calls[0..1], &mut log);
     assert_eq!(rt; made, Ok(()));
     assert_eq!(rt; log.len(), 1);
 }

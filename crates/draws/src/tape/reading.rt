@@ -1,12 +1,13 @@
 // The rows of a tape, and the draws of the present one.
-ghost use Rattle.std.specs.Prelude.{◌≡◌, ◌*◌, ◌≤◌};
-ghost use Rattle.draws.specs.Fits.{listed_fit, part_fits};
+ghost use Rattle.std.specs.Prelude.{◌≡◌, ◌≤◌};
+ghost use Rattle.draws.specs.Fits.{listed_fit, recorded_fit};
 ghost use Rattle.draws.specs.Recorded.{Fit, kept, numbers_of, recorded};
 ghost use Rattle.draws.specs.Taped.{book_of, coming_of};
 
 use crate::source::DrawSource;
 use crate::tape::Tape;
 use rows::refusal::Refusal;
+use rows::tables::first_rows;
 
 // The most numbers that a row may have.
 const LONGEST_ROW: usize = 10_000;
@@ -30,9 +31,8 @@ fn row_of(numbers: &[u32], row_length: usize, row: u32) -> &[u32]
 {
     let length = full_row(row_length);
     let first = row as usize * length;
-    let start = first.min(numbers.len());
-    let end = (first + length).min(numbers.len());
-    &numbers[start..end]
+    let from = &numbers[first.min(numbers.len())..];
+    first_rows(from, length)
 }
 
 impl<'a> Tape<'a> {
@@ -54,17 +54,14 @@ impl<'a> DrawSource for Tape<'a> {
 
     ghost coming = { coming_of };
 
-    ghost book_fits = { λ s row. listed_fit (numbers_of s.numbers.now s.row_length row) (part_fits (kept s.row_length) (row * kept s.row_length) s.numbers.now s.numbers_fit) };
+    ghost book_fits = { λ s. recorded_fit s.row_length s.numbers.now s.numbers_fit };
 
     ghost coming_fits = { λ s. listed_fit s.left.now s.left_fit };
 
     fn draw(&mut self) -> Result<u32, Refusal> {
-        if self.left.len() == 0 {
-            return Err(Refusal::NoDrawToCome);
-        }
-        let first = self.left[0];
-        self.left = &self.left[1..];
-        Ok(first)
+        let (first, rest) = self.left.split_first().ok_or(Refusal::NoDrawToCome)?;
+        self.left = rest;
+        Ok(*first)
     }
 
     fn start_row(&mut self, row: u32) {

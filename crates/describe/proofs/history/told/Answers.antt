@@ -1,15 +1,17 @@
-use Rattle.std.proofs.Common.{◌≡◌, ℕ, suc, ◌+◌, ◌-◌, take, sym, ap, ◌∙◌, arith}
+use Rattle.std.proofs.Common.{sym, ◌∙◌, rules, tests}
+use Rattle.std.proofs.lemmas.Iterator.{YieldsList-from_slice}
+use Rattle.std.proofs.lemmas.Iterator.Search.{position_from_yields_List}
 use Rattle.describe.specs.Histories.{ends_with}
 use Rattle.describe.proofs.Told.{told_all, told_to}
 use Rattle.describe.proofs.history.told.Goals as goal
 
-pub returns-then-is_last : goal.returns-then-is_last
-returns-then-is_last c =
-    let i = c.loop-i.i in
-    let more : i + 1 - 0 ≡ suc i = omega arith in
-    let ends = ap ends_with (sym c.index-entries-i.is) ∙ sym c.if-is_last.ensures in
-    ap (λ (n : ℕ). take n c.args.entries.now) more
-    ∙ told_to c.args.entries.now i c.index-entries-i.result c.loop-i-test.true c.loop-i.invariant ends
+-- Each answer finds the place anew: the two cases of the match are places of two types, which no lemma before them shares.
+pub returns-in-Some : goal.returns-in-Some
+returns-in-Some c =
+    let found = position_from_yields_List ends_with _ _ c.position.result c.position.ensures.ran (YieldsList-from_slice c.args.entries.now cc) (λ x b q k. search (rules, tests)) in
+    told_to c.args.entries.now c.in-Some.last (sym c.in-Some.is ∙ found)
 
-pub returns : goal.returns
-returns c = told_all c.args.entries.now (λ j d h. c.loop-i.invariant j d (omega (arith, h, c.loop-i-test.false)))
+pub returns-in-None : goal.returns-in-None
+returns-in-None c =
+    let found = position_from_yields_List ends_with _ _ c.position.result c.position.ensures.ran (YieldsList-from_slice c.args.entries.now cc) (λ x b q k. search (rules, tests)) in
+    told_all c.args.entries.now (sym c.in-None.is ∙ found)

@@ -1,26 +1,33 @@
-use Rattle.std.proofs.Common.{◌≡◌, Some, None, ap, ◌∙◌, arith}
-use Rattle.rows.specs.Plans.{PlanRows}
+use Rattle.std.proofs.Common.{◌∙◌, ap, arith}
 use Rattle.runs.specs.Plans.{weights}
-use Rattle.runs.specs.Runs.{picked}
 use Rattle.runs.specs.Ticks.{ticket}
-use Rattle.draws.specs.Tickets.{outcomes_in, picked_with, pick_by}
+use Rattle.draws.specs.Tickets.{outcomes_in, picked_with}
 use Rattle.draws.proofs.Shares.{every_draw_picks_one_outcome, every_outcome_has_its_own_stretch, every_outcome_has_its_share_of_draws}
-use Rattle.draws.proofs.Turns.{allowed_sum, picked_within}
+use Rattle.draws.proofs.Turns.{allowed_sum, picked_whole}
 use Rattle.draws.proofs.ticket.pick.Goals as goal
 
-pub returns-in-None : goal.returns-in-None
-returns-in-None c =
-    record { every_draw_picks_one_outcome = every_draw_picks_one_outcome; every_outcome_has_its_own_stretch = every_outcome_has_its_own_stretch; every_outcome_has_its_share_of_draws = every_outcome_has_its_share_of_draws; answer = answer; picked = λ p some few. answer p ∙ ap (picked_with (outcomes_in p c.args.outcomes.now) c.args.draw) (allowed_sum (weights (outcomes_in p c.args.outcomes.now)) some few); an_outcome = tt }
-  where
-    answer : (p : PlanRows) → None ≡ pick_by (outcomes_in p c.args.outcomes.now) c.args.draw
-    answer p = ap (picked_with (outcomes_in p c.args.outcomes.now) c.args.draw) (c.in-None.ensures p)
+pub returns-in_err-weights-clause-every_draw_picks_one_outcome : goal.returns-in_err-weights-clause-every_draw_picks_one_outcome
+returns-in_err-weights-clause-every_draw_picks_one_outcome c = every_draw_picks_one_outcome
 
-pub returns-in-Some : goal.returns-in-Some
-returns-in-Some c =
-    record { every_draw_picks_one_outcome = every_draw_picks_one_outcome; every_outcome_has_its_own_stretch = every_outcome_has_its_own_stretch; every_outcome_has_its_share_of_draws = every_outcome_has_its_share_of_draws; answer = answer; picked = λ p some few. answer p ∙ ap (picked_with (outcomes_in p c.args.outcomes.now) c.args.draw) (allowed_sum (weights (outcomes_in p c.args.outcomes.now)) some few); an_outcome = picked_within c.args.outcomes.now c.args.draw c.in-Some.weights c.place_of.result (omega arith) c.in-Some.ensures place }
-  where
-    place : (p : PlanRows) → c.place_of.result ≡ picked (outcomes_in p c.args.outcomes.now) (ticket c.args.draw c.in-Some.weights)
-    place p = c.place_of.ensures p ∙ ap (picked (outcomes_in p c.args.outcomes.now)) c.ticket.ensures.value
+pub returns-in_err-weights-clause-every_outcome_has_its_own_stretch : goal.returns-in_err-weights-clause-every_outcome_has_its_own_stretch
+returns-in_err-weights-clause-every_outcome_has_its_own_stretch c = every_outcome_has_its_own_stretch
 
-    answer : (p : PlanRows) → Some c.place_of.result ≡ pick_by (outcomes_in p c.args.outcomes.now) c.args.draw
-    answer p = ap Some (place p) ∙ ap (picked_with (outcomes_in p c.args.outcomes.now) c.args.draw) (c.in-Some.ensures p)
+pub returns-in_err-weights-clause-every_outcome_has_its_share_of_draws : goal.returns-in_err-weights-clause-every_outcome_has_its_share_of_draws
+returns-in_err-weights-clause-every_outcome_has_its_share_of_draws c = every_outcome_has_its_share_of_draws
+
+pub returns-clause-every_draw_picks_one_outcome : goal.returns-clause-every_draw_picks_one_outcome
+returns-clause-every_draw_picks_one_outcome c = every_draw_picks_one_outcome
+
+pub returns-clause-every_outcome_has_its_own_stretch : goal.returns-clause-every_outcome_has_its_own_stretch
+returns-clause-every_outcome_has_its_own_stretch c = every_outcome_has_its_own_stretch
+
+pub returns-clause-every_outcome_has_its_share_of_draws : goal.returns-clause-every_outcome_has_its_share_of_draws
+returns-clause-every_outcome_has_its_share_of_draws c = every_outcome_has_its_share_of_draws
+
+pub returns-clause-answer : goal.returns-clause-answer
+returns-clause-answer c p =
+    picked_whole p c.args.outcomes.now c.args.draw c.in_ok-weights.weights c.ticket.result c.place_of.result (omega arith) (c.in_ok-weights.ensures p) (c.ticket.ensures.value ∙ ap (ticket c.args.draw) c.from.ensures) (c.place_of.ensures.place p)
+
+pub returns-clause-picked : goal.returns-clause-picked
+returns-clause-picked c p some few =
+    returns-clause-answer c p ∙ ap (picked_with (outcomes_in p c.args.outcomes.now) c.args.draw) (allowed_sum (weights (outcomes_in p c.args.outcomes.now)) some few)

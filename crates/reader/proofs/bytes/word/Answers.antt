@@ -8,5 +8,6 @@ pub returns : goal.returns
 returns c =
     let b = c.args.bytes.now in
     let i = c.args.i in
-    let value : c.from.result * 256 + c.from-2.result ≡ word_at b i = omega arith in
-    record { value = value; whole = ap two value ∙ word_of_bytes (get_or b i 0) (get_or b (i + 1) 0) (omega arith) ∙ sym (take_two b i c.requires) }
+    let spelled : c.from_be_bytes.result ≡ get_or b i 0 * 256 + get_or b (i + 1) 0 = c.from_be_bytes.ensures in
+    let value : c.from_be_bytes.result ≡ word_at b i = omega arith in
+    record { value = value; whole = ap two value ∙ word_of_bytes (get_or b i 0) (get_or b (i + 1) 0) (omega (arith, c.type_inv.bytes (i + 1))) ∙ sym (take_two b i c.requires) }

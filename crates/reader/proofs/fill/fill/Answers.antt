@@ -1,29 +1,20 @@
 use Rattle.std.proofs.Common.{◌≡◌, ◌*◌, ◌/◌, ◌++◌, length, drop, ap, ◌∙◌, arith}
 use Rattle.rows.specs.Files.{rows_in}
 use Rattle.rows.proofs.Files.{length_rows_in}
-use Rattle.rows.proofs.Fills.{filled_all, filled_more, filled_none}
+use Rattle.rows.proofs.Fills.{filled_all, filled_more}
 use Rattle.reader.proofs.fill.fill.Goals as goal
-
-pub loop-i-init : goal.loop-i-init
-loop-i-init g c = filled_none _ _ _ _ _
-
-pub nth_row-requires : goal.nth_row-requires
-nth_row-requires g c =
-    let all = length_rows_in g.R.Row.parsed c.args.size c.args.part.now in
-    record { sized = c.requires.sized; some = c.requires.some; there = omega arith }
 
 pub loop-i-preserved : goal.loop-i-preserved
 loop-i-preserved g c =
-    let all = length_rows_in g.R.Row.parsed c.args.size c.args.part.now in
     filled_more _ _ _ _ _ _ _ _ c.loop-i.invariant (omega arith) (omega arith) (c.nth_row.ensures.value c.nth_row.result) c.nth_row.ensures.whole
 
 pub returns : goal.returns
 returns g c =
-    let size = c.args.size in
+    let size = g.R.Row.SIZE in
     let part = c.args.part.now in
     let rows = rows_in g.R.Row.parsed size part in
     let all = length_rows_in g.R.Row.parsed size part in
-    let n : c.loop-i.i ≡ length part / size = omega arith in
     let count : c.loop-i.i ≡ length rows = omega arith in
+    let n : c.loop-i.i ≡ length part / size = count ∙ all in
     let done = filled_all _ _ _ _ _ _ c.loop-i.i c.loop-i.invariant (omega arith) (omega (arith, ap (λ k. size * k) n)) in
     record { filled = done.0 ∙ ap (λ k. rows ++ drop k c.args.table.now) count; bytes = done.1 }

@@ -1,93 +1,73 @@
-use Rattle.std.proofs.Common.{◌≡◌, ◌≤◌, length, Some, sym, refl, ap, ◌∙◌, arith}
+use Rattle.std.proofs.Common.{◌≡◌, Some, sym, refl, ap, ◌∙◌}
 use Rattle.std.proofs.lemmas.Result.{err_from_is_err_and}
 use Rattle.rows.specs.declared.section.Counts.{Counts}
+use Rattle.rows.specs.declared.section.SectionName.TheVariants.{Timers, Comparisons, Stages, Changes, Outcomes, Goal}
 use Rattle.rows.specs.Files.{Read, change_at, comparison_at, file_fault, goal_at, outcome_at, stage_at, timer_at}
 use Rattle.rows.specs.Plans.{PlanRows, change_bytes, comparison_bytes, counts_of, goal_bytes, outcome_bytes, stage_bytes, timer_bytes}
 use Rattle.rows.proofs.Files.{fault_is_no_plan, one_plan_a_file}
 use Rattle.reader.specs.Gathered.{gathered, rows_held}
 use Rattle.reader.specs.Parts.{bytes_in}
-use Rattle.reader.specs.Split.{plan_of}
-use Rattle.reader.proofs.Reading.{Filled, begins_at, filled_read, split_counted}
-use Rattle.reader.proofs.Splits.{part_fits}
+use Rattle.reader.proofs.Reading.{Filled, begins_at, filled_read, split_counted, table_fits}
 use Rattle.reader.proofs.read.read.Goals as goal
+
+-- the rooms that the sections are held against are those of the handed tables
+rooms_of : (rooms : Counts) (seen before : PlanRows) → rooms ≡ counts_of seen → seen ≡ before → rooms ≡ counts_of before
+rooms_of rooms seen before counted same = counted ∙ ap counts_of same
 
 pub returns-in_err-parts : goal.returns-in_err-parts
 returns-in_err-parts c =
     let p = err_from_is_err_and c.from_residual.result c.from_residual.ensures.1 in
-    let rooms : Counts = counts_of (gathered c.args.tables) in
-    let fault : file_fault rooms c.args.bytes.now ≡ Some c.in_err-parts.field-0.0 =
-    ap (λ n. file_fault n c.args.bytes.now) (sym c.rooms.ensures) ∙ c.in_err-parts.ensures in
+    let before : PlanRows = gathered c.args.tables in
+    let same = rooms_of c.counts.result _ before c.counts.ensures c.view.ensures in
+    let fault : file_fault (counts_of before) c.args.bytes.now ≡ Some c.in_err-parts.field-0.0 =
+    ap (λ n. file_fault n c.args.bytes.now) (sym same) ∙ c.in_err-parts.ensures in
     rw (p.1, p.2)
     (record {
       answer = (fault, refl);
-      the_file_of_every_sound_plan_that_fits_is_read_back = fault_is_no_plan rooms c.args.bytes.now c.in_err-parts.field-0.0 fault;
+      the_file_of_every_sound_plan_that_fits_is_read_back = fault_is_no_plan (counts_of before) c.args.bytes.now c.in_err-parts.field-0.0 fault;
     })
 
 pub fill-requires : goal.fill-requires
 fill-requires c =
-    let parts = c.in_ok-parts.parts in
-    let passed = c.in_ok-parts.ensures in
-    let counted = (split_counted c.rooms.result c.args.bytes.now parts passed.split).timers in
-    let room = ap (λ (n : Counts). n.timers) c.rooms.ensures in
-    let table = length c.args.tables.timers.now in
-    let fits : length (plan_of parts).timers ≤ table = omega arith in
-    let part = part_fits timer_at 2 c.bytes.result.now (bytes_in parts.timers) table c.bytes.ensures counted.whole fits in
-    record { sized = refl; some = omega arith; whole = part.0; room = part.1 }
+    let same = rooms_of c.counts.result _ (gathered c.args.tables) c.counts.ensures c.view.ensures in
+    let all = split_counted c.counts.result c.args.bytes.now c.in_ok-parts.parts c.in_ok-parts.ensures.split in
+    let fits = table_fits Timers timer_at _ _ _ _ _ all.timers (ap (λ (n : Counts). n.timers) same) c.bytes.ensures in
+    record { whole = fits.0; room = fits.1 }
 
 pub fill-requires-2 : goal.fill-requires-2
 fill-requires-2 c =
-    let parts = c.in_ok-parts.parts in
-    let passed = c.in_ok-parts.ensures in
-    let counted = (split_counted c.rooms.result c.args.bytes.now parts passed.split).comparisons in
-    let room = ap (λ (n : Counts). n.comparisons) c.rooms.ensures in
-    let table = length c.args.tables.comparisons.now in
-    let fits : length (plan_of parts).comparisons ≤ table = omega arith in
-    let part = part_fits comparison_at 6 c.bytes-2.result.now (bytes_in parts.comparisons) table c.bytes-2.ensures counted.whole fits in
-    record { sized = refl; some = omega arith; whole = part.0; room = part.1 }
+    let same = rooms_of c.counts.result _ (gathered c.args.tables) c.counts.ensures c.view.ensures in
+    let all = split_counted c.counts.result c.args.bytes.now c.in_ok-parts.parts c.in_ok-parts.ensures.split in
+    let fits = table_fits Comparisons comparison_at _ _ _ _ _ all.comparisons (ap (λ (n : Counts). n.comparisons) same) c.bytes-2.ensures in
+    record { whole = fits.0; room = fits.1 }
 
 pub fill-requires-3 : goal.fill-requires-3
 fill-requires-3 c =
-    let parts = c.in_ok-parts.parts in
-    let passed = c.in_ok-parts.ensures in
-    let counted = (split_counted c.rooms.result c.args.bytes.now parts passed.split).stages in
-    let room = ap (λ (n : Counts). n.stages) c.rooms.ensures in
-    let table = length c.args.tables.stages.now in
-    let fits : length (plan_of parts).stages ≤ table = omega arith in
-    let part = part_fits stage_at 10 c.bytes-3.result.now (bytes_in parts.stages) table c.bytes-3.ensures counted.whole fits in
-    record { sized = refl; some = omega arith; whole = part.0; room = part.1 }
+    let same = rooms_of c.counts.result _ (gathered c.args.tables) c.counts.ensures c.view.ensures in
+    let all = split_counted c.counts.result c.args.bytes.now c.in_ok-parts.parts c.in_ok-parts.ensures.split in
+    let fits = table_fits Stages stage_at _ _ _ _ _ all.stages (ap (λ (n : Counts). n.stages) same) c.bytes-3.ensures in
+    record { whole = fits.0; room = fits.1 }
 
 pub fill-requires-4 : goal.fill-requires-4
 fill-requires-4 c =
-    let parts = c.in_ok-parts.parts in
-    let passed = c.in_ok-parts.ensures in
-    let counted = (split_counted c.rooms.result c.args.bytes.now parts passed.split).changes in
-    let room = ap (λ (n : Counts). n.changes) c.rooms.ensures in
-    let table = length c.args.tables.changes.now in
-    let fits : length (plan_of parts).changes ≤ table = omega arith in
-    let part = part_fits change_at 8 c.bytes-4.result.now (bytes_in parts.changes) table c.bytes-4.ensures counted.whole fits in
-    record { sized = refl; some = omega arith; whole = part.0; room = part.1 }
+    let same = rooms_of c.counts.result _ (gathered c.args.tables) c.counts.ensures c.view.ensures in
+    let all = split_counted c.counts.result c.args.bytes.now c.in_ok-parts.parts c.in_ok-parts.ensures.split in
+    let fits = table_fits Changes change_at _ _ _ _ _ all.changes (ap (λ (n : Counts). n.changes) same) c.bytes-4.ensures in
+    record { whole = fits.0; room = fits.1 }
 
 pub fill-requires-5 : goal.fill-requires-5
 fill-requires-5 c =
-    let parts = c.in_ok-parts.parts in
-    let passed = c.in_ok-parts.ensures in
-    let counted = (split_counted c.rooms.result c.args.bytes.now parts passed.split).outcomes in
-    let room = ap (λ (n : Counts). n.outcomes) c.rooms.ensures in
-    let table = length c.args.tables.outcomes.now in
-    let fits : length (plan_of parts).outcomes ≤ table = omega arith in
-    let part = part_fits outcome_at 6 c.bytes-5.result.now (bytes_in parts.outcomes) table c.bytes-5.ensures counted.whole fits in
-    record { sized = refl; some = omega arith; whole = part.0; room = part.1 }
+    let same = rooms_of c.counts.result _ (gathered c.args.tables) c.counts.ensures c.view.ensures in
+    let all = split_counted c.counts.result c.args.bytes.now c.in_ok-parts.parts c.in_ok-parts.ensures.split in
+    let fits = table_fits Outcomes outcome_at _ _ _ _ _ all.outcomes (ap (λ (n : Counts). n.outcomes) same) c.bytes-5.ensures in
+    record { whole = fits.0; room = fits.1 }
 
 pub fill-requires-6 : goal.fill-requires-6
 fill-requires-6 c =
-    let parts = c.in_ok-parts.parts in
-    let passed = c.in_ok-parts.ensures in
-    let counted = (split_counted c.rooms.result c.args.bytes.now parts passed.split).goals in
-    let room = ap (λ (n : Counts). n.goals) c.rooms.ensures in
-    let table = length c.args.tables.goals.now in
-    let fits : length (plan_of parts).goals ≤ table = omega arith in
-    let part = part_fits goal_at 4 c.bytes-6.result.now (bytes_in parts.goals) table c.bytes-6.ensures counted.whole fits in
-    record { sized = refl; some = omega arith; whole = part.0; room = part.1 }
+    let same = rooms_of c.counts.result _ (gathered c.args.tables) c.counts.ensures c.view.ensures in
+    let all = split_counted c.counts.result c.args.bytes.now c.in_ok-parts.parts c.in_ok-parts.ensures.split in
+    let fits = table_fits Goal goal_at _ _ _ _ _ all.goals (ap (λ (n : Counts). n.goals) same) c.bytes-6.ensures in
+    record { whole = fits.0; room = fits.1 }
 
 pub returns : goal.returns
 returns c =
@@ -105,7 +85,7 @@ returns c =
       goals = begins_at goal_at goal_bytes 4 c.bytes-6.result.now (bytes_in parts.goals) before.goals later.goals c.bytes-6.ensures c.fill-6.ensures;
     } in
     let was : Read c.args.bytes.now before later c.counts-counts.result =
-    filled_read c.rooms.result c.args.bytes.now parts before later c.counts-counts.result passed filled c.counts-counts.ensures in
+    filled_read c.counts.result c.args.bytes.now parts before later c.counts-counts.result passed filled c.counts-counts.ensures in
     record {
       answer = was;
       the_file_of_every_sound_plan_that_fits_is_read_back = λ p sound fits e. one_plan_a_file _ p (sym was.file ∙ e);

@@ -1,27 +1,29 @@
-use Rattle.std.proofs.Common.{◌≡◌, ◌+◌, ◌*◌, ◌≤◌, length, take, drop, None, sym, ap, ◌∙◌, arith}
+use Rattle.std.proofs.Common.{◌≡◌, ◌+◌, ◌*◌, ◌≤◌, length, take, drop, Some, None, sym, ap, ◌∙◌}
 use Rattle.std.proofs.lemmas.List.{take_rest}
-use Rattle.std.proofs.lemmas.Bool.Decides.{nat_tests}
-use Rattle.rows.specs.Files.{layout_rules, word_at}
+use Rattle.std.proofs.lemmas.Result.{err_from_is_err_and}
+use Rattle.std.specs.Result.{result_err}
+use Rattle.rows.specs.Files.{part_fault, word_at}
 use Rattle.rows.specs.Plans.{word}
 use Rattle.rows.specs.Sections.{size_of}
-use Rattle.rows.specs.Verdicts.{first_broken}
-use Rattle.rows.proofs.Files.{after_in, part_fails, part_in_is, part_passes, part_sized, part_whole}
+use Rattle.rows.proofs.Files.{after_in, part_checked, part_in_is, part_long, part_sized, part_whole}
 use Rattle.reader.proofs.section.cut.Goals as goal
 
-pub returns-in-Some : goal.returns-in-Some
-returns-in-Some c =
-    part_fails c.args.name c.args.rooms.now c.args.bytes.now c.in-Some.refusal
-    (c.in-Some.ensures ∙ ap (λ n. first_broken (layout_rules c.args.name n c.args.bytes.now)) c.of.ensures)
+pub returns-in_err-placed : goal.returns-in_err-placed
+returns-in_err-placed c =
+    let e = err_from_is_err_and c.from_residual.result c.from_residual.ensures.1 in
+    rw (e.1, e.2)
+    (part_checked c.args.name c.args.rooms.now c.args.bytes.now c.of.result (result_err c.check_part.result) (Some c.in_err-placed.field-0.0) c.of.ensures c.check_part.ensures c.in_err-placed.ensures)
 
 pub returns : goal.returns
 returns c =
     let s = c.args.name in
     let b = c.args.bytes.now in
     let size : c.size.result * c.word.result ≡ size_of s * word_at b 0 = ap (λ n. n * c.word.result) c.size.ensures ∙ ap (λ n. size_of s * n) c.word.ensures.value in
-    let kept : None ≡ first_broken (layout_rules s c.of.result b) = c.in_default.ensures in
-    let long : 2 + size_of s * word_at b 0 ≤ length b = grind (arith, nat_tests) in
+    let passes : part_fault s c.args.rooms.now b ≡ None =
+    part_checked s c.args.rooms.now b c.of.result (result_err c.check_part.result) None c.of.ensures c.check_part.ensures c.in_ok-placed.ensures in
+    let long : 2 + size_of s * word_at b 0 ≤ length b = part_long s c.args.rooms.now b passes in
     record {
-      passes = part_passes s c.args.rooms.now b (kept ∙ ap (λ n. first_broken (layout_rules s n b)) c.of.ensures);
+      passes = passes;
       named = c.new.ensures.named;
       part = c.new.ensures.holds ∙ c.split_at.ensures.front ∙ ap (take (c.size.result * c.word.result)) (take_rest b 2) ∙ ap (λ n. take n (drop 2 b)) size ∙ part_in_is s b;
       left = c.split_at.ensures.back ∙ ap (drop (c.size.result * c.word.result)) (take_rest b 2) ∙ ap (λ n. drop n (drop 2 b)) size ∙ after_in s b;

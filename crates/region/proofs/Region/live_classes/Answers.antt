@@ -1,5 +1,4 @@
-use Rattle.std.proofs.Common.{ℕ, ◌<◌, List, length, ◌∙◌, arith}
-use Rattle.std.proofs.lemmas.List.{length-set}
+use Rattle.std.proofs.Common.{ℕ, ◌<◌, List, length, rules}
 use Rattle.region.specs.Resetting.{marks}
 use Rattle.region.specs.Viewed.{viewed}
 use Rattle.region.proofs.Placed.{live_written, live_kept}
@@ -9,16 +8,12 @@ pub returns-then-self : goal.returns-then-self
 returns-then-self c =
     let r = c.args.self.now in
     let xs : List ℕ = c.held_ranks-live.result in
-    let some : 0 < length xs = omega (arith, c.held_ranks-live.ensures.room) in
-    record {
-      room = length-set xs 0 0 ∙ c.held_ranks-live.ensures.room;
-      live = λ j h. live_written (marks r.number c.args.timers) (viewed r) xs j some c.if-self.true (c.held_ranks-live.ensures.held j h);
-    }
+    let t = c.held_ranks-live.type_inv in
+    let a = c.held_ranks-live.auto in
+    let some : 0 < length xs = search rules in
+    λ j h. live_written (marks r.number c.args.timers) (viewed r) xs j some c.if-self.true (c.held_ranks-live.ensures j h)
 
 pub returns-else-self : goal.returns-else-self
 returns-else-self c =
     let r = c.args.self.now in
-    record {
-      room = c.held_ranks-live.ensures.room;
-      live = λ j h. live_kept (marks r.number c.args.timers) (viewed r) c.held_ranks-live.result j c.if-self.false (c.held_ranks-live.ensures.held j h);
-    }
+    λ j h. live_kept (marks r.number c.args.timers) (viewed r) c.held_ranks-live.result j c.if-self.false (c.held_ranks-live.ensures j h)

@@ -1,40 +1,42 @@
-use Rattle.std.proofs.Common.{◌≡◌, ℕ, ◌+◌, ◌<◌, ◌≤◌, ◌++◌, map, length, get_or, take, drop, set, sym, ap, ◌∙◌, arith}
-use Rattle.std.proofs.lemmas.List.{length-set}
-use Rattle.theory.specs.Records.{Timer, count, timer_no}
+use Rattle.std.proofs.Common.{◌≡◌, ℕ, ◌+◌, ◌<◌, List, length, get_or, set, drop, map, refl, sym, ap, ◌∙◌, arith}
+use Rattle.std.proofs.lemmas.List.{get_or_default, length-take, length-take-le, take_at}
+use Rattle.std.proofs.lemmas.List.Edits.{map_over_more}
+use Rattle.theory.specs.Records.{Record, count, timer_no}
+use Rattle.region.specs.declared.value.TimerValue.{TimerValue}
+use Rattle.region.specs.Reads.{values_in}
 use Rattle.region.specs.Viewed.{viewed}
-use Rattle.region.specs.Views.{blank}
+use Rattle.region.specs.Views.{blank, timer_in}
 use Rattle.region.specs.Waiting.{row_at}
-use Rattle.region.proofs.Shown.{timer_shown}
-use Rattle.region.proofs.Waited.{later_row, write_over, rows_later}
+use Rattle.region.proofs.Shown.{length_shown, value_shown}
+use Rattle.region.proofs.Waited.{later_row, rows_later, still_there}
 use Rattle.region.proofs.Region.rows_after.Goals as goal
 
 pub row_at-requires : goal.row_at-requires
 row_at-requires c =
     let r = c.args.self.now in
-    let room : r.number ≤ length r.rows = omega arith in
-    let t = timer_shown r.whole r.classes r.number r.rows c.loop-i.i room c.loop-i-test.true in
-    let same : c.count_of.result ≡ count (viewed r) (timer_no (viewed r) c.loop-i.i) =
-    c.count_of.ensures.counts ∙ ap (λ (x : Timer). count (viewed r) x) (sym t) in
-    omega (arith, c.requires c.loop-i.i c.loop-i-test.true)
+    let v : Record = viewed r in
+    let i : ℕ = c.loop-row.row-index in
+    let within : i < length (values_in r) = omega (arith, length-take {A = TimerValue}, length_shown r.number r.rows (omega arith)) in
+    let row : get_or c.loop-row.row-items i blank ≡ get_or (values_in r) i blank = still_there (later_row v c.args.steps) (values_in r) c.loop-row.row-items i within c.loop-row.invariant in
+    let same : c.count_of.result ≡ count v (timer_no v i) =
+    c.count_of.ensures.counts ∙ ap (λ x. count v (timer_in x)) row ∙ ap (count v) (sym (value_shown (values_in r) v i refl within)) in
+    omega (arith, c.requires i (omega (arith, length-take-le r.number r.rows)))
 
-pub loop-i-preserved : goal.loop-i-preserved
-loop-i-preserved c =
+pub loop-row-preserved : goal.loop-row-preserved
+loop-row-preserved c =
     let r = c.args.self.now in
-    let within : c.loop-i.i < length r.rows = omega arith in
-    let row : c.row_at.result ≡ later_row (viewed r) c.args.steps (get_or r.rows c.loop-i.i blank) =
-    c.row_at.ensures ∙ ap (λ (x : ℕ). row_at r.classes (x + c.args.steps)) c.count_of.ensures.counts in (
-      length-set c.loop-i.rows c.loop-i.i c.row_at.result ∙ c.loop-i.invariant.0,
-      ap (set c.loop-i.rows c.loop-i.i) row
-          ∙ write_over (later_row (viewed r) c.args.steps) r.rows c.loop-i.rows c.loop-i.i within c.loop-i.invariant.1,
-    )
+    let v : Record = viewed r in
+    let i : ℕ = c.loop-row.row-index in
+    let ys : List TimerValue = c.loop-row.row-items in
+    let x : TimerValue = get_or ys i blank in
+    let within : i < length (values_in r) = omega (arith, length-take {A = TimerValue}, length_shown r.number r.rows (omega arith)) in
+    let sum : c.from.result + c.from-in-loop-row.result ≡ count v (timer_in x) + c.args.steps = omega arith in
+    let row : c.row_at.result ≡ later_row v c.args.steps x = c.row_at.ensures ∙ ap (row_at r.classes) sum in
+    ap (set ys i) row ∙ map_over_more (later_row v c.args.steps) (values_in r) ys i x within c.loop-row.invariant (get_or_default ys i blank x (omega (arith, length-take {A = TimerValue}, length_shown r.number r.rows (omega arith))))
 
 pub returns : goal.returns
 returns c =
     let r = c.args.self.now in
-    let room : r.number ≤ length r.rows = omega arith in
-    let end : c.loop-i.i ≡ r.number = omega arith in
-    let done = c.loop-i.invariant.1 ∙ ap (λ (n : ℕ). map (later_row (viewed r) c.args.steps) (take n r.rows) ++ drop n r.rows) end in
-    record {
-      room = c.loop-i.invariant.0;
-      later = rows_later r.whole r.classes r.number r.rows c.loop-i.rows c.args.steps room done;
-    }
+    let full : length c.loop-row.row-items ≡ r.number = omega (arith, length-take {A = TimerValue}, length_shown r.number r.rows (omega arith)) in
+    ap (map timer_in) (take_at c.loop-row.row-items (drop c.timers.result r.rows) r.number full)
+    ∙ rows_later r.whole r.classes r.number c.loop-row.row-index r.rows c.loop-row.row-items c.args.steps (omega (arith, length-take {A = TimerValue})) c.loop-row.invariant

@@ -1,21 +1,45 @@
-use Rattle.std.proofs.Common.{◌<◌, length, refl, ◌∙◌, arith}
-use Rattle.std.proofs.lemmas.List.{length-set}
-use Rattle.theory.specs.Records.{fresh, reranked}
+use Rattle.std.proofs.Common.{◌≡◌, ℕ, ◌<◌, cond, List, length, get_or, take, refl, ap, ◌∙◌, arith}
+use Rattle.std.proofs.lemmas.List.{get_or-set_other, length-take}
+use Rattle.theory.specs.Records.{Timer, fresh, reranked}
 use Rattle.theory.specs.Settings.{marked}
-use Rattle.region.specs.Resetting.{marks}
+use Rattle.region.specs.declared.value.TimerValue.{TimerValue}
+use Rattle.region.specs.Reads.{values_in}
+use Rattle.region.specs.Resetting.{bit_no, marks}
 use Rattle.region.specs.Viewed.{viewed}
+use Rattle.region.specs.Views.{blank, timer_in}
 use Rattle.region.proofs.Placed.{rows_reset_more}
+use Rattle.region.proofs.Shown.{length_shown, rank_below}
 use Rattle.region.proofs.Region.rows_reset.Goals as goal
 
-pub loop-i-init : goal.loop-i-init
+pub loop-timer-init : goal.loop-timer-init
 unfolding marked
-loop-i-init c = (c.args.self.now.full, refl)
-
-pub loop-i-preserved : goal.loop-i-preserved
-loop-i-preserved c =
+loop-timer-init c =
     let r = c.args.self.now in
-    let within : c.loop-i.i < length r.rows = omega arith in
-    let room : c.loop-i.i < length c.loop-i.rows = omega (arith, c.loop-i.invariant.0) in (
-      length-set c.loop-i.rows c.loop-i.i c.row_reset.result ∙ c.loop-i.invariant.0,
-      rows_reset_more fresh (reranked (marks r.number c.args.timers) (viewed r)) c.args.timers r.rows c.loop-i.rows c.loop-i.i c.row_reset.result within room c.loop-i.invariant.1 c.row_reset.ensures,
+    let n : c.timers.result ≡ r.number = omega (arith, length_shown r.number r.rows (omega arith)) in
+    (refl, λ k h. ap (λ m. get_or (take m r.rows) k blank) n)
+
+pub row_reset-requires : goal.row_reset-requires
+row_reset-requires c =
+    let r = c.args.self.now in
+    let ys : List TimerValue = c.loop-timer.row-items in
+    let i : ℕ = c.loop-timer.timer in
+    let within : i < length (values_in r) = omega (arith, length-take {A = TimerValue}, length_shown r.number r.rows (omega arith)) in
+    let row : get_or ys i blank ≡ get_or (values_in r) i blank = c.loop-timer.invariant.1 i (omega arith) in
+    omega (arith, ap (λ (x : TimerValue). x.rank) row, rank_below (values_in r) (viewed r) i refl within r.valid)
+
+pub loop-timer-preserved : goal.loop-timer-preserved
+loop-timer-preserved c =
+    let r = c.args.self.now in
+    let ys : List TimerValue = c.loop-timer.row-items in
+    let i : ℕ = c.loop-timer.timer in
+    let within : i < length (values_in r) = omega (arith, length-take {A = TimerValue}, length_shown r.number r.rows (omega arith)) in
+    let room : i < length ys = omega (arith, length-take {A = TimerValue}, length_shown r.number r.rows (omega arith)) in
+    let row : get_or ys i blank ≡ get_or (values_in r) i blank = c.loop-timer.invariant.1 i (omega arith) in
+    let f : Timer → Timer = reranked (marks r.number c.args.timers) (viewed r) in
+    let here : timer_in c.row_reset.result ≡ cond (bit_no c.args.timers i) fresh (f (timer_in (get_or (values_in r) i blank))) =
+    c.row_reset.ensures (marks r.number c.args.timers) c.requires
+    ∙ ap (λ (x : TimerValue). cond c.is_named.result fresh (f (timer_in x))) row
+    ∙ ap (λ b. cond b fresh (f (timer_in (get_or (values_in r) i blank)))) c.is_named.ensures in (
+      rows_reset_more fresh f c.args.timers (values_in r) ys i c.row_reset.result within room c.loop-timer.invariant.0 here,
+      λ k h. get_or-set_other ys i k c.row_reset.result blank (omega arith) ∙ c.loop-timer.invariant.1 k (omega arith),
     )

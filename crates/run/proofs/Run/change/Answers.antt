@@ -1,51 +1,32 @@
-use Rattle.std.proofs.Common.{◌≡◌, ℕ, ◌<◌, length, get_or, is_some, Err, refl, ap, ◌∙◌, arith, rules}
-use Rattle.std.proofs.lemmas.Result.{err_from_is_err_and}
+use Rattle.std.proofs.Common.{◌<◌, length, get_or, is_some, refl, ap, rules}
 use Rattle.std.proofs.lemmas.Option.{MatchOption-at_some}
 use Rattle.offers.specs.Known.{rows_of}
 use Rattle.rows.specs.Verdicts.{no_outcome}
 use Rattle.runs.specs.Plans.{Change}
 use Rattle.runs.specs.Tables.{outcome_of_row}
 use Rattle.run.specs.Views.{plan_for, view_of}
-use Rattle.run.proofs.Drawn.{drawing_made, drawing_refused}
+use Rattle.run.proofs.Drawn.{drawing_made}
 use Rattle.run.proofs.Picked.{outcome_at_place, outcome_place, outcome_sound, outcomes_are, picked_place, weights_allowed}
 use Rattle.run.proofs.Same.{same_source}
 use Rattle.run.proofs.Run.change.Goals as goal
 
-pub returns-in_err-draw : goal.returns-in_err-draw
-returns-in_err-draw g c =
-    let run = c.args.self.now in
-    let refusal = c.in_err-draw.field-0.0 in
-    let p = err_from_is_err_and c.from_residual.result c.from_residual.ensures.1 in
-    record {
-      answer = drawing_refused (plan_for run) (view_of g.D.DrawSource.coming run) c.args.change c.args.wait (g.D.DrawSource.coming c.draw.new.self) refusal c.from_residual.result c.in_err-draw.ensures.answer (p.1 ∙ ap (λ x. Err x) p.2);
-      plan_kept = refl;
-      book_kept = c.draw.ensures.book_kept;
-      refused_unchanged = λ _. same_source run c.draw.new.self _ _ (c.in_err-draw.ensures.refused_unchanged refl);
-    }
+pub returns-in_err-draw-clause-refused_unchanged : goal.returns-in_err-draw-clause-refused_unchanged
+returns-in_err-draw-clause-refused_unchanged g c =
+    λ _. same_source c.args.self.now c.draw.new.self _ _ (c.in_err-draw.ensures.refused_unchanged refl)
 
 pub unwrap-place-requires : goal.unwrap-place-requires
 unwrap-place-requires g c =
     let run = c.args.self.now in
     let p = rows_of run.plan in
     let own = c.outcomes_of-outcomes.result.now in
-    let w = weights_allowed p run.stage c.args.change own run.plan.sound c.requires.of_stage (outcomes_are p run.stage c.args.change c.args.row own c.requires.its_row c.outcomes_of-outcomes.ensures) in
+    let w = weights_allowed p run.at.stage c.args.change own run.plan.sound c.requires.of_stage (outcomes_are p run.at.stage c.args.change c.args.row own c.requires.its_row c.outcomes_of-outcomes.ensures) in
     ap is_some (c.pick.ensures.picked p w.0 w.1)
 
-pub arrive-requires : goal.arrive-requires
-arrive-requires g c =
+pub arrive-requires-clause-an_outcome : goal.arrive-requires-clause-an_outcome
+arrive-requires-clause-an_outcome g c =
     let run = c.args.self.now in
     let own = c.outcomes_of-outcomes.result.now in
-    record {
-      in_hold = c.requires.in_hold;
-      an_outcome = outcome_sound (rows_of run.plan) c.args.row own c.unwrap-place.result run.plan.sound c.outcomes_of-outcomes.ensures (MatchOption-at_some (Unit {0}) (λ n. n < length own) c.unwrap-place.result c.unwrap-place.ensures c.pick.ensures.an_outcome);
-    }
-
-pub overflow_cast-result : goal.overflow_cast-result
-overflow_cast-result g c =
-    let run = c.args.self.now in
-    let own = c.outcomes_of-outcomes.result.now in
-    let l = outcome_place (rows_of run.plan) c.args.row own c.unwrap-place.result run.plan.sound c.outcomes_of-outcomes.ensures (MatchOption-at_some (Unit {0}) (λ n. n < length own) c.unwrap-place.result c.unwrap-place.ensures c.pick.ensures.an_outcome) in
-    search rules
+    outcome_sound (rows_of run.plan) c.args.row own c.unwrap-place.result run.plan.sound c.outcomes_of-outcomes.ensures (MatchOption-at_some (Unit {0}) (λ n. n < length own) c.unwrap-place.result c.unwrap-place.ensures c.pick.ensures.an_outcome)
 
 pub overflow_add-result : goal.overflow_add-result
 overflow_add-result g c =
@@ -54,18 +35,13 @@ overflow_add-result g c =
     let l = outcome_place (rows_of run.plan) c.args.row own c.unwrap-place.result run.plan.sound c.outcomes_of-outcomes.ensures (MatchOption-at_some (Unit {0}) (λ n. n < length own) c.unwrap-place.result c.unwrap-place.ensures c.pick.ensures.an_outcome) in
     search rules
 
-pub returns : goal.returns
-returns g c =
+pub returns-clause-answer : goal.returns-clause-answer
+returns-clause-answer g c =
     let run = c.args.self.now in
     let p = rows_of run.plan in
     let own = c.outcomes_of-outcomes.result.now in
     let n = c.unwrap-place.result in
-    let outcomes = outcomes_are p run.stage c.args.change c.args.row own c.requires.its_row c.outcomes_of-outcomes.ensures in
-    let place = picked_place p run.stage c.args.change own c.in_ok-draw.draw n c.pick.result run.plan.sound c.requires.of_stage outcomes c.unwrap-place.ensures (c.pick.ensures.picked p) in
+    let outcomes = outcomes_are p run.at.stage c.args.change c.args.row own c.requires.its_row c.outcomes_of-outcomes.ensures in
+    let place = picked_place p run.at.stage c.args.change own c.in_ok-draw.draw n c.pick.result run.plan.sound c.requires.of_stage outcomes c.unwrap-place.ensures (c.pick.ensures.picked p) in
     let l = MatchOption-at_some (Unit {0}) (λ k. k < length own) n c.unwrap-place.ensures c.pick.ensures.an_outcome in
-    record {
-      answer = drawing_made (plan_for run) (view_of g.D.DrawSource.coming run) (view_of g.D.DrawSource.coming c.arrive.new.self) c.args.change c.args.wait c.in_ok-draw.draw c.args.row.first_outcome n (outcome_of_row p (get_or own n no_outcome)) (g.D.DrawSource.coming c.draw.new.self) c.in_ok-draw.ensures.answer (ap (λ (k : Change). k.first) c.requires.its_row) place (outcome_at_place p run.stage c.args.change own n outcomes l) c.arrive.ensures.arrived;
-      plan_kept = c.arrive.ensures.kept.plan;
-      book_kept = ap g.D.DrawSource.book c.arrive.ensures.kept.source ∙ c.draw.ensures.book_kept;
-      refused_unchanged = λ e. absurd (let z : ◌≡◌ {A = ℕ} 0 1 = cc in omega arith);
-    }
+    drawing_made (plan_for run) (view_of g.D.DrawSource.coming run) (view_of g.D.DrawSource.coming c.arrive.new.self) c.args.change c.args.wait c.in_ok-draw.draw c.args.row.first_outcome n (outcome_of_row p (get_or own n no_outcome)) (g.D.DrawSource.coming c.draw.new.self) c.in_ok-draw.ensures.answer (ap (λ (k : Change). k.first) c.requires.its_row) place (outcome_at_place p run.at.stage c.args.change own n outcomes l) c.arrive.ensures.arrived

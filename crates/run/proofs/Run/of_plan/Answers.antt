@@ -1,4 +1,4 @@
-use Rattle.std.proofs.Common.{sym, refl, subst}
+use Rattle.std.proofs.Common.{sym, subst}
 use Rattle.offers.specs.Known.{plan_of, rows_of}
 use Rattle.offers.proofs.Checking.{plan_sound}
 use Rattle.plan.specs.Handed.{held_by}
@@ -14,19 +14,19 @@ pub invariant_of-result : goal.invariant_of-result
 invariant_of-result g c =
     let plan = c.args.plan in
     let sound = plan_sound (rows_of plan) plan.sound in
-    let z = opened_at_zero (rows_of plan) (held_by c.tables.result) (viewed c.opening-region.result) c.tables.ensures plan.sound c.opening-region.ensures.told in
+    let z = opened_at_zero (rows_of plan) (held_by c.tables.result) (viewed c.opening.result) c.tables.ensures plan.sound c.opening.ensures.told in
     record { in_bounds = ∣ subst (InBounds (plan_of plan)) (sym z) (zero_in_bounds (plan_of plan) sound) ∣₁; a_stage = sound.some_stage }
 
-pub returns : goal.returns
-returns g c =
+pub returns-clause-as_it_opens : goal.returns-clause-as_it_opens
+returns-clause-as_it_opens g c =
     let plan = c.args.plan in
-    let sound = plan_sound (rows_of plan) plan.sound in
-    let draws = g.D.DrawSource.coming c.args.source in
-    let z = opened_at_zero (rows_of plan) (held_by c.tables.result) (viewed c.opening-region.result) c.tables.ensures plan.sound c.opening-region.ensures.told in
-    record {
-      its_plan = refl;
-      as_it_opens = as_it_opens (plan_of plan) draws (viewed c.opening-region.result) c.judged-standing.result z c.judged-standing.ensures;
-      its_source = refl;
-      regions_and_ticks_tell_the_same = regions_and_ticks_tell_the_same (plan_of plan) draws sound (g.D.DrawSource.coming_fits c.args.source);
-      every_call_keeps_it_in_bounds = keeps_in_bounds (plan_of plan) draws sound;
-    }
+    let z = opened_at_zero (rows_of plan) (held_by c.tables.result) (viewed c.opening.result) c.tables.ensures plan.sound c.opening.ensures.told in
+    as_it_opens (plan_of plan) (g.D.DrawSource.coming c.args.source) (viewed c.opening.result) c.judged-standing.result z c.judged-standing.ensures
+
+pub returns-clause-regions_and_ticks_tell_the_same : goal.returns-clause-regions_and_ticks_tell_the_same
+returns-clause-regions_and_ticks_tell_the_same g c =
+    regions_and_ticks_tell_the_same (plan_of c.args.plan) (g.D.DrawSource.coming c.args.source) (plan_sound (rows_of c.args.plan) c.args.plan.sound) (g.D.DrawSource.coming_fits c.args.source)
+
+pub returns-clause-every_call_keeps_it_in_bounds : goal.returns-clause-every_call_keeps_it_in_bounds
+returns-clause-every_call_keeps_it_in_bounds g c =
+    keeps_in_bounds (plan_of c.args.plan) (g.D.DrawSource.coming c.args.source) (plan_sound (rows_of c.args.plan) c.args.plan.sound)

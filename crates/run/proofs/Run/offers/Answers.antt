@@ -6,15 +6,9 @@ use Rattle.run.proofs.Run.offers.Goals as goal
 pub returns-then-is_open : goal.returns-then-is_open
 returns-then-is_open g c =
     let run = c.args.self.now in
-    record {
-      offers = c.possible_changes.ensures.offers ∙ sym (shown_open (plan_for run) (view_of g.D.DrawSource.coming run) (sym c.if-is_open.ensures));
-      tidy = c.possible_changes.ensures.tidy;
-    }
+    c.possible_changes.ensures.offers ∙ sym (shown_open (plan_for run) (view_of g.D.DrawSource.coming run) (sym c.if-is_open.ensures))
 
 pub returns-else-is_open : goal.returns-else-is_open
 returns-else-is_open g c =
     let run = c.args.self.now in
-    record {
-      offers = c.none.ensures.none ∙ sym (shown_not_open (plan_for run) (view_of g.D.DrawSource.coming run) (sym c.if-is_open.ensures));
-      tidy = c.none.ensures.tidy;
-    }
+    c.none.ensures ∙ sym (shown_not_open (plan_for run) (view_of g.D.DrawSource.coming run) (sym c.if-is_open.ensures))

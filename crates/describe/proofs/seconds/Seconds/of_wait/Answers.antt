@@ -6,20 +6,13 @@ use Rattle.describe.proofs.seconds.Seconds.of_wait.Goals as goal
 some : (c : goal.After-greatest_common-common) → 0 < c.steps_per_second-per_second.result
 some c = omega (arith, c.steps_per_second-per_second.ensures.steps, c.args.region.now.classed)
 
-pub nonzero_div-result-2 : goal.nonzero_div-result-2
-nonzero_div-result-2 c =
-    (lowest c.args.steps c.steps_per_second-per_second.result c.greatest_common-common.result (some c) c.greatest_common-common.ensures).0
-
-pub nonzero_div-result-3 : goal.nonzero_div-result-3
-nonzero_div-result-3 c = nonzero_div-result-2 c
-
 pub returns : goal.returns
 returns c =
     let per = c.steps_per_second-per_second.result in
     let d = c.greatest_common-common.result in
     let all = lowest c.args.steps per d (some c) c.greatest_common-common.ensures in
     record {
-      same_time = ap (λ z. (c.args.steps / per * (per / d) + c.args.steps % per / d) * z) (sym c.steps_per_second-per_second.ensures.steps) ∙ all.1;
-      proper = all.2;
-      lowest = all.3;
+      same_time = ap (λ z. (c.args.steps / per * (per / d) + c.args.steps % per / d) * z) (sym c.steps_per_second-per_second.ensures.steps) ∙ all.0;
+      proper = all.1;
+      lowest = all.2;
     }

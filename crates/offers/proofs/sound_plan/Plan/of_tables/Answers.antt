@@ -1,4 +1,3 @@
-use Rattle.std.proofs.Common.{refl}
 use Rattle.plan.specs.Handed.{held_by}
 use Rattle.rows.specs.Plans.{PlanRows}
 use Rattle.offers.proofs.Checking.{as_checked_faultless, plan_sound}
@@ -6,13 +5,9 @@ use Rattle.offers.proofs.sound_plan.Plan.of_tables.Goals as goal
 
 pub invariant_of-result : goal.invariant_of-result
 invariant_of-result c =
-    record { sound = as_checked_faultless c.args.n (held_by c.args.tables) (held_by c.checked_rows.result) c.checked_rows.ensures }
+    record { sound = as_checked_faultless c.args.handed (held_by c.checked_rows.result) c.checked_rows.ensures }
 
-pub returns : goal.returns
-returns c =
+pub returns-clause-can_be_run : goal.returns-clause-can_be_run
+returns-clause-can_be_run c =
     let p : PlanRows = held_by c.checked_rows.result in
-    record {
-      rows = c.checked_rows.ensures;
-      blank = refl;
-      can_be_run = plan_sound p (as_checked_faultless c.args.n (held_by c.args.tables) p c.checked_rows.ensures);
-    }
+    plan_sound p (as_checked_faultless c.args.handed p c.checked_rows.ensures)

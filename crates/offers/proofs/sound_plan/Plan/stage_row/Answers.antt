@@ -1,22 +1,17 @@
-use Rattle.std.proofs.Common.{arith}
+use Rattle.std.proofs.Common.{◌≡◌, get_or, rules}
+use Rattle.rows.specs.Verdicts.{no_stage}
 use Rattle.offers.specs.Known.{rows_of}
-use Rattle.offers.proofs.Known.{stage_missing, stage_row_sound, stage_there}
+use Rattle.offers.proofs.Known.{stage_row_fits}
 use Rattle.offers.proofs.sound_plan.Plan.stage_row.Goals as goal
 
-pub returns-then-stage-stages : goal.returns-then-stage-stages
-returns-then-stage-stages c =
+pub returns-clause-marked : goal.returns-clause-marked
+returns-clause-marked c =
     let p = rows_of c.args.self.now in
-    let s = stage_row_sound p c.args.stage c.args.self.now.sound c.if-stage-stages.true in
-    record {
-      row = stage_there p c.args.stage c.if-stage-stages.true;
-      marked = s.marked;
-      few = s.few_changes;
-    }
+    let row : c.unwrap_or_default.result ≡ get_or p.stages c.args.stage no_stage = search rules in
+    (stage_row_fits p c.args.stage c.unwrap_or_default.result c.args.self.now.sound row).0
 
-pub returns-else-stage-stages : goal.returns-else-stage-stages
-returns-else-stage-stages c =
-    record {
-      row = stage_missing (rows_of c.args.self.now) c.args.stage c.if-stage-stages.false;
-      marked = omega arith;
-      few = omega arith;
-    }
+pub returns-clause-few : goal.returns-clause-few
+returns-clause-few c =
+    let p = rows_of c.args.self.now in
+    let row : c.unwrap_or_default.result ≡ get_or p.stages c.args.stage no_stage = search rules in
+    (stage_row_fits p c.args.stage c.unwrap_or_default.result c.args.self.now.sound row).1

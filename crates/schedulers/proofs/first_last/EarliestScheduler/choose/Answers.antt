@@ -1,12 +1,7 @@
-use Rattle.std.proofs.Common.{◌≡◌, [], sym, ap}
-use Rattle.std.proofs.lemmas.List.{nil_from_length}
-use Rattle.region.specs.Viewed.{viewed}
-use Rattle.schedulers.specs.Foremost.{foremost_of}
-use Rattle.schedulers.specs.Meanings.{earliest}
+use Rattle.std.proofs.Common.{refl, rules}
+use Rattle.schedulers.specs.Meanings.{comes_before}
+use Rattle.schedulers.proofs.Chosen.{chosen}
 use Rattle.schedulers.proofs.first_last.EarliestScheduler.choose.Goals as goal
 
-pub returns-in-None : goal.returns-in-None
-unfolding foremost_of
-returns-in-None c =
-    let none : c.args.offers.now ≡ [] = nil_from_length c.args.offers.now c.in-None.ensures in
-    sym (ap (earliest c.args._stage (viewed c.args._region.now)) none)
+pub returns : goal.returns
+returns c = chosen comes_before (λ o. o.lowest) c.args.offers.now c.foremost.result c.map_or.result refl c.foremost.ensures (search rules)

@@ -1,0 +1,71 @@
+// A source of either kind.
+ghost use Rattle.draws.specs.Computed.{first_state};
+ghost use Rattle.draws.specs.Either.{book_of, coming_of};
+ghost use Rattle.draws.specs.Fits.{endless_fit, listed_fit, recorded_fit};
+ghost use Rattle.draws.specs.declared.either.Source.TheVariants.{Computed, Recorded};
+
+use crate::congruential::Congruential;
+use crate::source::DrawSource;
+use crate::tape::Tape;
+use rows::refusal::Refusal;
+
+// Computed or recorded draws, whichever were asked for where the program runs. A closed list and no dyn: a run has no heap, and its book is read from the value.
+#[derive(Clone, Copy, Debug, PartialEq, Eq)]
+pub enum Source<'a> {
+    Computed(Congruential),
+    Recorded(Tape<'a>),
+}
+
+impl<'a> DrawSource for Source<'a> {
+    ghost book = { book_of };
+
+    ghost coming = { coming_of };
+
+    ghost book_fits = { elim [
+      | Computed c ↦ λ row. endless_fit (first_state c.seed row)
+      | Recorded t ↦ recorded_fit t.row_length t.numbers.now t.numbers_fit
+    ] };
+
+    ghost coming_fits = { elim [
+      | Computed c ↦ endless_fit c.state
+      | Recorded t ↦ listed_fit t.left.now t.left_fit
+    ] };
+
+    // Draws from the source that it holds.
+    fn draw(&mut self) -> Result<u32, Refusal> {
+        match self {
+            Source::Computed(source) => source.draw(),
+            Source::Recorded(tape) => tape.draw(),
+        }
+    }
+
+    // Starts a row of the source that it holds.
+    fn start_row(&mut self, row: u32) {
+        match self {
+            Source::Computed(source) => source.start_row(row),
+            Source::Recorded(tape) => tape.start_row(row),
+        }
+    }
+}
+
+#[cfg(test)]
+mod tests {
+    use crate::congruential::Congruential;
+    use crate::either::Source;
+    use crate::source::DrawSource;
+    use crate::tape::Tape;
+    use rows::refusal::Refusal;
+
+    #[test]
+    fn each_kind_deals_its_own_draws(rt: HostRuntime) {
+        let mut computed = Source::Computed(Congruential::new(0));
+        assert_eq!(rt; computed.draw(), Ok(1013904223));
+        computed.start_row(0);
+        assert_eq!(rt; computed.draw(), Ok(1013904223));
+        let mut recorded = Source::Recorded(Tape::new(&[10], 1));
+        assert_eq!(rt; recorded.draw(), Ok(10));
+        assert_eq!(rt; recorded.draw(), Err(Refusal::NoDrawToCome));
+        recorded.start_row(0);
+        assert_eq!(rt; recorded.draw(), Ok(10));
+    }
+}
