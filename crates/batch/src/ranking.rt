@@ -1,9 +1,8 @@
 // The rows that reached the goal in the most and in the fewest runs.
 ghost use Rattle.std.specs.Prelude.{◌≡◌, length, MatchOption};
-ghost use Rattle.batch.specs.Rankings.{reached_less, reached_more};
+ghost use Rattle.batch.specs.Rankings.{less_ranks, more_ranks, reached_less, reached_more};
 ghost use Rattle.schedulers.specs.Foremost.{foremost_of};
 ghost use Rattle.std.specs.List.{IsFirstBest};
-ghost use Rattle.std.proofs.Common.{rules};
 
 use crate::BatchRow;
 use schedulers::foremost::{Ranking, foremost};
@@ -14,7 +13,7 @@ struct ByMost;
 impl Ranking<BatchRow> for ByMost {
     ghost ahead = { λ _. reached_more };
 
-    ghost ranks = { Prim.search rules };
+    ghost ranks = { λ _. more_ranks };
 
     fn beats(&self, a: &BatchRow, b: &BatchRow) -> bool {
         a.reached > b.reached
@@ -26,7 +25,7 @@ struct ByFewest;
 impl Ranking<BatchRow> for ByFewest {
     ghost ahead = { λ _. reached_less };
 
-    ghost ranks = { Prim.search rules };
+    ghost ranks = { λ _. less_ranks };
 
     fn beats(&self, a: &BatchRow, b: &BatchRow) -> bool {
         a.reached < b.reached

@@ -1,7 +1,7 @@
 // Numbers and rows out of the bytes of a file.
 ghost use Rattle.std.specs.Prelude.{◌≡◌, ℕ, ◌+◌, ◌*◌, ◌<◌, ◌≤◌, List, length, take, drop, slice_index_or};
-ghost use Rattle.std.proofs.Common.{arith};
 ghost use Rattle.rows.specs.Files.{change_at, comparison_at, goal_at, outcome_at, rows_in, stage_at, timer_at, word_at};
+ghost use Rattle.reader.specs.Filling.{some_bytes};
 ghost use Rattle.rows.specs.Plans.{change_bytes, comparison_bytes, goal_bytes, outcome_bytes, stage_bytes, timer_bytes, word as two_bytes};
 
 use rows::tables::{ChangeRow, ComparisonRow, GoalRow, OutcomeRow, StageRow, TimerRow};
@@ -60,7 +60,7 @@ impl Row for TimerRow {
 
     const SIZE: usize = 2;
 
-    ghost some = { omega arith };
+    ghost some = { some_bytes 1 };
 
     fn at(part: &[u8], i: usize) -> TimerRow {
         TimerRow {
@@ -78,7 +78,7 @@ impl Row for ComparisonRow {
 
     const SIZE: usize = 6;
 
-    ghost some = { omega arith };
+    ghost some = { some_bytes 5 };
 
     fn at(part: &[u8], i: usize) -> ComparisonRow {
         ComparisonRow {
@@ -100,7 +100,7 @@ impl Row for StageRow {
 
     const SIZE: usize = 10;
 
-    ghost some = { omega arith };
+    ghost some = { some_bytes 9 };
 
     fn at(part: &[u8], i: usize) -> StageRow {
         StageRow {
@@ -122,7 +122,7 @@ impl Row for ChangeRow {
 
     const SIZE: usize = 8;
 
-    ghost some = { omega arith };
+    ghost some = { some_bytes 7 };
 
     fn at(part: &[u8], i: usize) -> ChangeRow {
         ChangeRow {
@@ -143,7 +143,7 @@ impl Row for OutcomeRow {
 
     const SIZE: usize = 6;
 
-    ghost some = { omega arith };
+    ghost some = { some_bytes 5 };
 
     fn at(part: &[u8], i: usize) -> OutcomeRow {
         OutcomeRow {
@@ -163,7 +163,7 @@ impl Row for GoalRow {
 
     const SIZE: usize = 4;
 
-    ghost some = { omega arith };
+    ghost some = { some_bytes 3 };
 
     fn at(part: &[u8], i: usize) -> GoalRow {
         GoalRow {

@@ -5,8 +5,8 @@ ghost use Rattle.reader.specs.Filling.{Begins, Records};
 
 use crate::bytes::{Row, count, nth_row};
 
-// Writes the rows of a part into the front of a table. The other rows stay. The loop goes over places, since nothing is known of
-// a table that was written through an adapter of iter_mut.
+// Writes the rows of a part into the front of a table. The other rows stay. The loop goes over places, since a file gives
+// a row by its place.
 pub fn fill<R: Row>(part: &[u8], table: &mut [R])
     requires whole { Records R.Row.SIZE part.now }
     requires room { length (rows_in R.Row.parsed R.Row.SIZE part.now) ≤ length table.old }
