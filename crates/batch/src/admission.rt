@@ -1,25 +1,18 @@
 // The limits of a batch.
 ghost use Rattle.std.specs.Prelude.{◌≡◌, Some, None, MatchResult};
-ghost use Rattle.batch.specs.Batches.{from_1_to, refusal_of, within};
+ghost use Rattle.batch.specs.Batches.{refusal_of, within};
 
-use crate::Limits;
+use crate::{LARGEST, Limits, MOST_IDENTIFIERS};
 use rows::refusal::Refusal;
-
-// Whether a number is at least 1 and at most this.
-fn from_1_to(most: usize, n: usize) -> bool
-    ensures { result ≡ from_1_to most n }
-{
-    (1..=most).contains(&n)
-}
 
 // Whether every number of a batch is within its limits.
 fn within(identifiers: usize, limits: Limits) -> bool
     ensures { result ≡ within identifiers limits }
 {
-    from_1_to(1_000, identifiers)
-        && from_1_to(10_000, limits.runs as usize)
-        && from_1_to(10_000, limits.steps as usize)
-        && from_1_to(1_000_000_000, limits.allowance as usize)
+    (1..=MOST_IDENTIFIERS).contains(&identifiers)
+        && (1..=LARGEST.runs).contains(&limits.runs)
+        && (1..=LARGEST.steps).contains(&limits.steps)
+        && (1..=LARGEST.allowance).contains(&limits.allowance)
 }
 
 // Refuses a batch with a number off its limits, and one whose rows do not fit.

@@ -36,14 +36,24 @@ pub struct BatchRow {
 }
 
 // How many runs each identifier has, how many steps a run may have, and how many all runs together.
-#[derive(Clone, Copy)]
+#[derive(Clone, Copy, Debug, PartialEq, Eq)]
 pub struct Limits {
     pub runs: u32,
     pub steps: u32,
     pub allowance: u32,
 }
 
-// Runs every identifier as often as the limits say, on handed tables and the first rows of a source, and enters a row for each. Where a number is off its limits, or the log has no room for all rows, it is refused before anything is done. The source is given back.
+// The largest numbers that a batch may have. Each is at least 1.
+pub const LARGEST: Limits = Limits {
+    runs: 10_000,
+    steps: 10_000,
+    allowance: 1_000_000_000,
+};
+
+// The most identifiers that a batch may have.
+pub const MOST_IDENTIFIERS: usize = 1_000;
+
+// Runs every identifier as often as the limits say, on handed tables and the first rows of a source, and enters a row for each. Where a number is off its limits, or the log has no room for all rows, it is refused before anything is done. The source is given back whatever the answer, so it stands beside the result.
 #[tactic(auto, using(crate::proofs::Sums::the_four_counts_sum, crate::proofs::Alone::counts_each_by_itself))]
 pub fn batch<'p, D: DrawSource, W: Watch>(
     handed: Handed<'p>,

@@ -7,8 +7,8 @@ use draws::source::DrawSource;
 use draws::tape::Tape;
 use logs::Log;
 use plan::handed::{Handed, Tables};
+use plan::records::Records;
 use rows::refusal::Refusal;
-use rows::section::Counts;
 use rows::tables::{ChangeRow, ComparisonRow, GoalRow, OutcomeRow, StageRow, TimerRow};
 
 static TIMERS: [TimerRow; 2] = [TimerRow { ceiling: 3 }, TimerRow { ceiling: 2 }];
@@ -18,6 +18,7 @@ static GOALS: [GoalRow; 1] = [GoalRow {
     comparisons: 0,
 }];
 
+// Makers of rows. They are not shared: what is made for tests is not seen by another crate, and other tests fill other columns.
 fn comparison(kind: u8, first: u8, second: u8, constant: u16) -> ComparisonRow {
     ComparisonRow {
         kind,
@@ -105,14 +106,7 @@ fn run_batch<D: DrawSource>(
         outcomes: &rows.outcomes,
         goals: &GOALS,
     };
-    let counts = Counts {
-        timers: 2,
-        comparisons: 4,
-        stages: 4,
-        changes: 3,
-        outcomes: 5,
-        goals: 1,
-    };
+    let counts = tables.counts();
     batch(
         Handed { tables, counts },
         source,
@@ -158,29 +152,21 @@ fn identifier_4_always_reaches_the_goal(rt: HostRuntime) {
 static HIGHEST: [u32; 8] = [u32::MAX; 8];
 
 #[test]
-fn a_spent_allowance_leaves_runs_unfinished(rt: HostRuntime) {
-    let mut rows = [BatchRow::default(); 2];
-    let mut log = Log::new(&mut rows);
-    let tape = Tape::new(&HIGHEST, 2);
-    let (answer, _) = run_batch(tape, &[0, 4], limits(4, 10, 5), &mut log);
-    assert_eq!(rt; answer, Ok(()));
-    assert_eq!(rt;
-        log.entries(),
-        [row(0, 2, 0, 0, 2), row(4, 0, 0, 0, 4)].as_slice()
-    );
-}
-
-#[test]
-fn a_run_without_draws_is_unfinished(rt: HostRuntime) {
-    let mut rows = [BatchRow::default(); 2];
-    let mut log = Log::new(&mut rows);
-    let tape = Tape::new(&HIGHEST, 2);
-    let (answer, _) = run_batch(tape, &[0, 4], limits(5, 10, 16), &mut log);
-    assert_eq!(rt; answer, Ok(()));
-    assert_eq!(rt;
-        log.entries(),
-        [row(0, 4, 0, 0, 1), row(4, 4, 0, 0, 1)].as_slice()
-    );
+fn a_run_without_allowance_or_draws_is_unfinished(rt: HostRuntime) {
+    let cases = [
+        // A spent allowance.
+        (limits(4, 10, 5), [row(0, 2, 0, 0, 2), row(4, 0, 0, 0, 4)]),
+        // A fifth run of each, which has no row of draws.
+        (limits(5, 10, 16), [row(0, 4, 0, 0, 1), row(4, 4, 0, 0, 1)]),
+    ];
+    for (limits, made) in cases {
+        let mut rows = [BatchRow::default(); 2];
+        let mut log = Log::new(&mut rows);
+        let tape = Tape::new(&HIGHEST, 2);
+        let (answer, _) = run_batch(tape, &[0, 4], limits, &mut log);
+        assert_eq!(rt; answer, Ok(()));
+        assert_eq!(rt; log.entries(), made.as_slice());
+    }
 }
 
 // What a batch answers that has no rows to write to: 14 for numbers off their limits, and else 13.

@@ -1,15 +1,11 @@
 -- A fraction divided through by the greatest common divisor is in lowest terms.
 use Rattle.std.proofs.Common.{◌≡◌, ℕ, ◌+◌, ◌*◌, ◌/◌, ◌%◌, ◌<◌, sym, ap, subst, mod-lt, mul-one, arith}
 use Prim.Native.Nat.{◌∣◌}
-use native.Mathlib.Nat.{dvd-mod_iff, dvd_of_mul-dvd-mul_left, eq-one_of_dvd-one, lt_of_mul-lt-mul_left, mul-div_cancel', mul-dvd-mul_left, pos_of_dvd_of_pos, div-add-mod}
-use Rattle.describe.specs.Fractions.{GreatestCommon}
-
-pub common_of_rest : (a b d : ℕ) → GreatestCommon b (a % b) d → GreatestCommon a b d
-common_of_rest a b d g =
-    ((dvd-mod_iff d g.0).0 g.1, g.0, λ k ha hb. g.2 k hb ((dvd-mod_iff k hb).1 ha))
+use Rattle.std.specs.Int.{IsGcd}
+use native.Mathlib.Nat.{dvd_of_mul-dvd-mul_left, eq-one_of_dvd-one, lt_of_mul-lt-mul_left, mul-div_cancel', mul-dvd-mul_left, pos_of_dvd_of_pos, div-add-mod}
 
 -- the whole and the fraction are the same time, the fraction is below one, and only 1 divides both of its parts
-pub lowest : (steps per d : ℕ) → 0 < per → GreatestCommon per (steps % per) d → ((steps / per * (per / d) + steps % per / d) * per ≡ steps * (per / d)) × (steps % per / d < per / d) × ((k : ℕ) → k ∣ steps % per / d → k ∣ per / d → k ≡ 1)
+pub lowest : (steps per d : ℕ) → 0 < per → IsGcd per (steps % per) d → ((steps / per * (per / d) + steps % per / d) * per ≡ steps * (per / d)) × (steps % per / d < per / d) × ((k : ℕ) → k ∣ steps % per / d → k ∣ per / d → k ≡ 1)
 lowest steps per d some g = (same, proper, only_one)
   where
     above : 0 < d

@@ -1,7 +1,8 @@
 -- Where the telling of a history ends.
-use Rattle.std.proofs.Common.{◌≡◌, ℕ, suc, ◌+◌, ◌-◌, ◌≤◌, Bool, true, false, not, cond, Some, None, List, [], ◌∷◌, length, take, refl, sym, ap, ◌∙◌, arith}
+use Rattle.std.proofs.Common.{◌≡◌, ℕ, suc, ◌+◌, ◌≤◌, Bool, true, false, not, cond, Some, None, List, [], ◌∷◌, length, take, refl, sym, ap, ◌∙◌, arith}
 use Rattle.std.proofs.lemmas.Bool.Decides.{nat_tests}
 use Rattle.std.proofs.lemmas.List.{take_all}
+use Rattle.std.proofs.lemmas.Option.{cond_some}
 use Rattle.std.specs.List.{position_or_len}
 use Rattle.run.specs.declared.call.Entry.{Entry}
 use Rattle.describe.specs.Histories.{ends_with, told_to_the_end}
@@ -18,19 +19,15 @@ told_to_position : (es : List Entry) → take (suc (position_or_len ends_with es
 told_to_position [] = refl
 told_to_position (e ∷ es) = with_first (ends_with e) e es (position_or_len ends_with es) (told_to_position es)
 
-found_at : (b : Bool) (p i : ℕ) → Some i ≡ cond b (Some p) None → i ≡ p
-found_at true p i h = cc
-found_at false p i h = cc
-
 not_found : (b : Bool) (p : ℕ) → None ≡ cond b (Some p) None → b ≡ false
 not_found true p h = cc
 not_found false p h = refl
 
 -- the entries up to the first that ends the history, where one does
-pub told_to : (es : List Entry) (i : ℕ) → Some i ≡ cond (ltb (position_or_len ends_with es) (length es)) (Some (position_or_len ends_with es)) None → take (i + 1 - 0) es ≡ told_to_the_end es
+pub told_to : (es : List Entry) (i : ℕ) → Some i ≡ cond (ltb (position_or_len ends_with es) (length es)) (Some (position_or_len ends_with es)) None → take (i + 1) es ≡ told_to_the_end es
 told_to es i found =
-    let place = found_at _ (position_or_len ends_with es) i found in
-    let end : i + 1 - 0 ≡ suc (position_or_len ends_with es) = omega arith in
+    let place = (cond_some _ (position_or_len ends_with es) i (sym found)).1 in
+    let end : i + 1 ≡ suc (position_or_len ends_with es) = omega arith in
     rw end (told_to_position es)
 
 -- all entries, where none ends the history

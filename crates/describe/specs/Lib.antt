@@ -1,4 +1,3 @@
-pub mod Fractions
 pub mod Histories
 pub mod Names
 pub mod Numbers

@@ -51,13 +51,15 @@ impl<'a> fmt::Display for ShownBatch<'a> {
         for row in rows {
             writeln!(f, "{}", ShownRow(*row))?;
         }
-        if let Some(most) = most_reached(rows) {
-            let row = rows[most];
-            writeln!(f, "most reached: {}", Ranked { row, runs })?;
-        }
-        if let Some(fewest) = fewest_reached(rows) {
-            let row = rows[fewest];
-            writeln!(f, "fewest reached: {}", Ranked { row, runs })?;
+        let foremost = [
+            ("most", most_reached(rows)),
+            ("fewest", fewest_reached(rows)),
+        ];
+        for (name, place) in foremost {
+            if let Some(place) = place {
+                let row = rows[place];
+                writeln!(f, "{name} reached: {}", Ranked { row, runs })?;
+            }
         }
         Ok(())
     }

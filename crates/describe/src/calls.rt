@@ -7,7 +7,8 @@ use crate::numbers::number;
 use run::call::Call;
 use schedulers::chooser::Chooser;
 
-// The scheduler that a word names: `earliest`, `latest`, or the identifier of a sampled one.
+// The scheduler that a word names: `earliest`, `latest`, or the identifier of a sampled one. No FromStr here and at `call`, since the types
+// are of other crates.
 pub fn named_scheduler(word: &str) -> Option<Chooser>
     ensures { MatchOption result ((s : Chooser) → Names word.now s → ⊥) (λ s. Names word.now s) }
 {
@@ -30,6 +31,7 @@ pub fn call(line: &str) -> Option<Call<Chooser>> {
     let mut words = line.split(' ').filter(|word| !word.is_empty());
     match (words.next(), words.next(), words.next(), words.next()) {
         (Some("take"), Some(change), Some(wait), None) => take(change, wait),
+        // Not by `named_scheduler`: there a number alone is a sampled one, here `sampled` is said.
         (Some("step"), Some("earliest"), None, None) => Some(Call::Step(Chooser::Earliest)),
         (Some("step"), Some("latest"), None, None) => Some(Call::Step(Chooser::Latest)),
         (Some("step"), Some("sampled"), Some(identifier), None) => {

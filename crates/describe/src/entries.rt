@@ -13,13 +13,12 @@ struct ShownStanding(Standing);
 
 impl fmt::Display for ShownStanding {
     fn fmt<W: fmt::Write>(&self, f: &mut fmt::Formatter<W>) -> fmt::Result {
-        let word = match self.0 {
+        f.write_str(match self.0 {
             Standing::Open => "open",
             Standing::Reached => "reached",
             Standing::Failed => "failed",
             Standing::Stuck => "stuck",
-        };
-        write!(f, "{word}")
+        })
     }
 }
 

@@ -21,7 +21,7 @@ fn is_refused(entry: &Entry) -> bool
 fn is_last(entry: &Entry) -> bool
     ensures { result ≡ ends_with entry.now }
 {
-    !matches!(entry.standing, Standing::Open) || is_refused(entry)
+    !entry.standing.is_open() || is_refused(entry)
 }
 
 // The entries up to the first that ends the history, with that one.
@@ -29,7 +29,7 @@ fn told(entries: &[Entry]) -> &[Entry]
     ensures { result.now ≡ told_to_the_end entries.now }
 {
     match entries.iter().position(is_last) {
-        Some(last) => &entries[0..last + 1],
+        Some(last) => &entries[..=last],
         None => entries,
     }
 }

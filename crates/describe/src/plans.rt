@@ -3,7 +3,7 @@ use crate::lists::joined;
 use crate::timers::TimerName;
 use plan::handed::Tables;
 use rows::reading::{Comparison, Mark, Relation, Subject};
-use rows::tables::{ChangeRow, ComparisonRow, OutcomeRow, StageRow, part};
+use rows::tables::{ChangeRow, ComparisonRow, OutcomeRow, StageRow, names};
 use std::fmt;
 
 #[derive(Clone, Copy)]
@@ -50,7 +50,7 @@ impl fmt::Display for ShownResets {
             return write!(f, "resets nothing");
         }
         write!(f, "resets")?;
-        for timer in (0..16usize).filter(|timer| (self.0 >> *timer) & 1 == 1) {
+        for timer in (0..16usize).filter(|timer| names(self.0, *timer)) {
             write!(f, " {}", TimerName(timer))?;
         }
         Ok(())
@@ -68,14 +68,11 @@ struct Placed<'a, Row> {
 // A change with its guard and, a line each, its outcomes with their odds.
 impl<'a> fmt::Display for Placed<'a, ChangeRow> {
     fn fmt<W: fmt::Write>(&self, f: &mut fmt::Formatter<W>) -> fmt::Result {
-        let guard = ShownList(part(self.plan.comparisons, self.row.first_guard, self.row.guards));
+        let guard = ShownList(self.plan.guard_of(self.row));
         let place = self.place;
         writeln!(f, "  change {place}: when {guard}")?;
-        let outcomes = part(
-            self.plan.outcomes,
-            self.row.first_outcome,
-            self.row.outcomes,
-        );
+        let outcomes = self.plan.outcomes_of(self.row);
+        // Saturating, since tables that are shown need not be checked.
         let total = outcomes.iter().fold(0u64, |total, outcome| {
             total.saturating_add(u64::from(outcome.weight))
         });
@@ -101,13 +98,12 @@ impl<'a> fmt::Display for Placed<'a, StageRow> {
             Mark::Avoid => "avoid",
             Mark::Both => "goal and avoid",
         };
-        let hold = ShownList(part(self.plan.comparisons, self.row.first_hold, self.row.holds));
+        let hold = ShownList(self.plan.hold_of(self.row));
         let place = self.place;
         writeln!(f, "stage {place}: {mark}, holds {hold}")?;
         let plan = self.plan;
-        let first = self.row.first_change as usize;
-        let changes = part(plan.changes, self.row.first_change, self.row.changes);
-        for (i, row) in changes.iter().enumerate() {
+        let first = usize::from(self.row.first_change);
+        for (i, row) in plan.changes_of(self.row).iter().enumerate() {
             let place = first.saturating_add(i);
             let row = *row;
             write!(f, "{}", Placed { plan, place, row })?;
@@ -136,7 +132,7 @@ impl<'a> fmt::Display for ShownPlan<'a> {
             write!(f, "{stage}")?;
         }
         for goal in self.0.goals {
-            let comparisons = ShownList(part(self.0.comparisons, goal.first, goal.comparisons));
+            let comparisons = ShownList(self.0.comparisons_of(*goal));
             writeln!(f, "goal: {comparisons}")?;
         }
         Ok(())

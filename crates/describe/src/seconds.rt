@@ -1,7 +1,6 @@
 // Waits in seconds.
 ghost use Rattle.std.specs.Prelude.{◌≡◌, ℕ, ◌+◌, ◌*◌, ◌<◌};
-ghost use Rattle.std.specs.Int.{◌∣◌};
-ghost use Rattle.describe.specs.Fractions.{GreatestCommon};
+ghost use Rattle.std.specs.Int.{◌∣◌, IsGcd};
 ghost use Rattle.region.specs.Viewed.{viewed};
 
 use region::Region;
@@ -9,7 +8,7 @@ use std::fmt;
 
 // The greatest number that divides both.
 fn greatest_common(a: u32, b: u32) -> u32
-    ensures { GreatestCommon a b result }
+    ensures { IsGcd a b result }
 {
     if b == 0 {
         return a;

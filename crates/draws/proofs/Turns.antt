@@ -1,8 +1,7 @@
 -- The turns of the loops over the rows of outcomes.
-use Rattle.std.proofs.Common.{◌≡◌, ℕ, suc, ◌+◌, ◌-◌, ◌^◌, ◌<◌, ◌≤◌, ltb, List, length, get_or, drop, Option, Some, None, ap, ◌∙◌, arith}
+use Rattle.std.proofs.Common.{◌≡◌, ℕ, suc, ◌+◌, ◌-◌, ◌^◌, ◌<◌, ◌≤◌, List, length, get_or, drop, Option, Some, None, ap, ◌∙◌, arith}
 use Rattle.std.proofs.lemmas.List.{at_drop_all, get_or-map, length-map}
 use Rattle.std.proofs.lemmas.Bool.Decides.{nat_tests}
-use Rattle.std.specs.Bool.{then_some}
 use Rattle.std.specs.Prelude.{MatchOption}
 use Rattle.rows.specs.declared.tables.OutcomeRow.{OutcomeRow}
 use Rattle.rows.specs.Plans.{PlanRows}
@@ -45,13 +44,7 @@ pub picked_end : (p : PlanRows) (rows : List OutcomeRow) (i t : ℕ) → length 
 picked_end p rows i t h =
     at_drop_all (λ os. picked os t) (outcomes_in p rows) i (omega (arith, length-map rows (outcome_of_row p))) ∙ picked_nil t
 
--- a sum that is not past 65535 is allowed exactly if it is not 0
-pub sum_of_some : (all : ℕ) → all ≤ 65535 → then_some (ltb 0 all) all ≡ allowed all
-sum_of_some all few = grind (arith, nat_tests)
-
-pub too_heavy : (all : ℕ) → 65535 < all → None ≡ allowed all
-too_heavy all many = grind (arith, nat_tests)
-
+-- a sum from 1 to 65535 is allowed
 pub allowed_sum : (all : ℕ) → 1 ≤ all → all ≤ 65535 → allowed all ≡ Some all
 allowed_sum all some few = grind (arith, nat_tests)
 

@@ -9,7 +9,8 @@ use crate::source::DrawSource;
 use crate::tape::Tape;
 use rows::refusal::Refusal;
 
-// Computed or recorded draws, whichever were asked for where the program runs. A closed list and no dyn: a run has no heap, and its book is read from the value.
+// Computed or recorded draws, whichever were asked for where the program runs. A closed list and no `&mut dyn`, which would lend the source:
+// a run owns it and gives it back, so its type is one value of known size.
 #[derive(Clone, Copy, Debug, PartialEq, Eq)]
 pub enum Source<'a> {
     Computed(Congruential),

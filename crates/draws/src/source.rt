@@ -6,6 +6,7 @@ ghost use Rattle.runs.specs.Telling.{DrawsFit};
 
 use rows::refusal::Refusal;
 
+// That the book stays, and that a refused draw leaves the source as it was, is said by each call: it holds of the source before and after.
 pub trait DrawSource {
     // The draws of each row, which never alter.
     ghost book: { Self → ℕ → Draws };

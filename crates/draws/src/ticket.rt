@@ -13,10 +13,11 @@ pub fn ticket(draw: u32, weights: u64) -> u64
     ensures value { result ≡ ticket_of draw weights }
     ensures below { 1 ≤ weights → result < weights }
 {
-    (draw as u128 * weights as u128 / (1 << 32)) as u64
+    (u128::from(draw) * u128::from(weights) / (1 << 32)) as u64
 }
 
 // The sum of the weights, if it is from 1 to 65535.
+#[tactic(auto, using(crate::proofs::Turns::weights_turn, crate::proofs::Turns::weights_end))]
 fn total(outcomes: &[OutcomeRow]) -> Option<u16>
     ensures { (p : PlanRows) → result ≡ allowed (weights_in (outcomes_in p outcomes.now)) }
 {
@@ -28,21 +29,24 @@ fn total(outcomes: &[OutcomeRow]) -> Option<u16>
 }
 
 // The place of the first outcome whose weights so far, its own with them, exceed the ticket, if some do.
+#[tactic(auto, using(crate::proofs::Turns::picked_turn, crate::proofs::Turns::passed_turn, crate::proofs::Turns::picked_end))]
 fn place_of(outcomes: &[OutcomeRow], ticket: u64) -> Option<usize>
     ensures place { (p : PlanRows) → MatchOption result (picked (outcomes_in p outcomes.now) ticket ≡ length outcomes.now) (λ n. n ≡ picked (outcomes_in p outcomes.now) ticket) }
     ensures an_outcome { IfSome result (λ n. n < length outcomes.now) }
 {
     let mut left = ticket;
     for (place, outcome) in outcomes.iter().enumerate() {
-        if outcome.weight as u64 > left {
+        let weight = u64::from(outcome.weight);
+        if weight > left {
             return Some(place);
         }
-        left -= outcome.weight as u64;
+        left -= weight;
     }
     None
 }
 
 // The place of the outcome that a draw picks. Where the weights do not sum to a number from 1 to 65535, as where there is no outcome, it picks none.
+#[tactic(auto, using(crate::proofs::Shares::every_draw_picks_one_outcome))]
 pub fn pick(outcomes: &[OutcomeRow], draw: u32) -> Option<usize>
     ensures every_draw_picks_one_outcome { EveryDrawPicksOneOutcome }
     ensures every_outcome_has_its_own_stretch { EveryOutcomeHasItsOwnStretch }
@@ -63,8 +67,7 @@ mod tests {
     fn outcome(weight: u16) -> OutcomeRow {
         OutcomeRow {
             weight,
-            stage: 0,
-            resets: 0,
+            ..OutcomeRow::default()
         }
     }
 

@@ -63,7 +63,8 @@ fn rows_of(
     Ok(rows)
 }
 
-// Runs a batch and prints its rows, and the best and the worst of them.
+// Runs a batch and prints its rows, and the best and the worst of them. `run_plan` begins alike: four lines that each say what they do are
+// plainer than one function that answers options, file and draws together. `replay_file` reads its calls in between.
 pub fn run_batch(rt: &HostRuntime, mut args: Args) -> anyhow::Result<()> {
     let plan = file_name(&mut args).context("batch takes a plan file: junction batch PLAN")?;
     let options = Options::read(rt.alloc(), Command::Batch, args)?;

@@ -9,16 +9,6 @@ use rows::section::Counts;
 use std::alloc::{AllocError, Global};
 use std::fs;
 
-// How many rows of each kind the largest plan has.
-const LARGEST: Counts = Counts {
-    timers: 16,
-    comparisons: 4096,
-    stages: 256,
-    changes: 1024,
-    outcomes: 4096,
-    goals: 1,
-};
-
 // The tables of a plan file.
 #[derive(Drop)]
 pub struct PlanFile {
@@ -29,7 +19,7 @@ impl PlanFile {
     // Tables with default rows, as many as the largest plan has.
     pub fn new(heap: Global) -> Result<PlanFile, AllocError> {
         Ok(PlanFile {
-            rows: OwnedTables::of(heap, LARGEST)?,
+            rows: OwnedTables::of(heap, Counts::largest())?,
         })
     }
 
@@ -44,20 +34,15 @@ impl PlanFile {
         }
     }
 
-    // Reads a plan file, or answers the rule that it breaks.
+    // Reads a plan file, or answers the rule that it breaks. The fault stands inside: it is told on standard output, and is no error of the program.
     pub fn load(rt: &HostRuntime, path: &str) -> anyhow::Result<Result<PlanFile, Fault>> {
-        let bytes = match fs::read(rt, path) {
-            Ok(bytes) => bytes,
-            Err(e) => return Err(anyhow!("cannot read {path}: {e}")),
-        };
+        let bytes = fs::read(rt, path).map_err(|e| anyhow!("cannot read {path}: {e}"))?;
         let mut file = PlanFile::new(rt.alloc())?;
-        match file.rows.read(&bytes) {
-            Ok(counts) => {
-                file.rows.cut(&counts);
-                Ok(Ok(file))
-            }
-            Err(fault) => Ok(Err(fault)),
-        }
+        let read = file.rows.read(&bytes).map(|counts| {
+            file.rows.cut(&counts);
+            file
+        });
+        Ok(read)
     }
 
     // The rows of the plan, and how many of each there are.
@@ -77,8 +62,5 @@ impl PlanFile {
 
 // The text of a file.
 pub fn text_of(rt: &HostRuntime, path: &str) -> anyhow::Result<String> {
-    match fs::read_to_string(rt, path) {
-        Ok(text) => Ok(text),
-        Err(e) => Err(anyhow!("cannot read {path}: {e}")),
-    }
+    fs::read_to_string(rt, path).map_err(|e| anyhow!("cannot read {path}: {e}"))
 }

@@ -3,10 +3,11 @@ ghost use Rattle.std.specs.Prelude.{◌≤◌, IfOk};
 
 use crate::sources::Draws;
 use anyhow::{Context, anyhow};
-use batch::Limits;
+use batch::{LARGEST, Limits, MOST_IDENTIFIERS};
 use describe::calls::named_scheduler;
 use describe::identifiers::identifiers;
 use describe::numbers::number;
+use draws::tape::LONGEST_ROW;
 use schedulers::chooser::Chooser;
 use std::alloc::Global;
 use std::env::Args;
@@ -95,7 +96,7 @@ impl<'a> Asked<'a> {
     {
         let name = self.name;
         let value = self.value()?;
-        number(value).filter(|n| least <= *n && *n <= most).context(format_args!(
+        number(value).filter(|n| (least..=most).contains(n)).context(format_args!(
             "{name} takes a number from {least} to {most}, not {value}"
         ))
     }
@@ -114,7 +115,7 @@ impl<'a> Asked<'a> {
         let name = self.name;
         let value = self.value()?;
         identifiers(self.heap, value)?.context(format_args!(
-            "{name} takes FIRST..LAST or a list as 3,5,8, at most 1000 of them, not {value}"
+            "{name} takes FIRST..LAST or a list as 3,5,8, at most {MOST_IDENTIFIERS} of them, not {value}"
         ))
     }
 
@@ -142,17 +143,19 @@ impl Given {
         match (asked.name, asked.command) {
             ("--seed", _) => asked.keep(&mut self.seed, asked.number(0, u32::MAX)?),
             ("--tape", _) => asked.keep(&mut self.tape, asked.text()?),
-            ("--row-length", _) => asked.keep(&mut self.row_length, asked.number(1, 10_000)?),
+            ("--row-length", _) => asked.keep(&mut self.row_length, asked.number(1, LONGEST_ROW)?),
             ("--scheduler", Command::Run) => asked.keep(&mut self.scheduler, asked.scheduler()?),
             ("--steps", Command::Run | Command::Batch) => {
-                asked.keep(&mut self.steps, asked.number(1, 10_000)?)
+                asked.keep(&mut self.steps, asked.number(1, LARGEST.steps)?)
             }
             ("--identifiers", Command::Batch) => {
                 asked.keep(&mut self.identifiers, asked.identifiers()?)
             }
-            ("--runs", Command::Batch) => asked.keep(&mut self.runs, asked.number(1, 10_000)?),
+            ("--runs", Command::Batch) => {
+                asked.keep(&mut self.runs, asked.number(1, LARGEST.runs)?)
+            }
             ("--allowance", Command::Batch) => {
-                asked.keep(&mut self.allowance, asked.number(1, 1_000_000_000)?)
+                asked.keep(&mut self.allowance, asked.number(1, LARGEST.allowance)?)
             }
             _ => Err(asked.unknown()),
         }
@@ -179,7 +182,7 @@ impl Given {
             limits: Limits {
                 runs: runs.unwrap_or(1_000),
                 steps: steps.unwrap_or(command.steps()),
-                allowance: allowance.unwrap_or(1_000_000_000),
+                allowance: allowance.unwrap_or(LARGEST.allowance),
             },
         })
     }
@@ -205,7 +208,7 @@ fn draws(
         (seed, None, None) => Ok(Draws::Seed(seed.unwrap_or(0))),
         (None, Some(path), length) => Ok(Draws::Tape {
             numbers: path,
-            row_length: length.unwrap_or(10_000) as usize,
+            row_length: length.unwrap_or(LONGEST_ROW) as usize,
         }),
     }
 }

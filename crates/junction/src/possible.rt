@@ -2,17 +2,13 @@
 use crate::files::PlanFile;
 use describe::offered::OfferAtZero;
 use offers::sound_plan::Plan;
-use region::Region;
 use runs::State;
 
 // Prints each possible change with its waits in seconds and in steps.
 pub fn possible(rt: &HostRuntime, path: &str) -> anyhow::Result<()> {
     let file = PlanFile::open(rt, path)?;
     let handed = file.handed();
-    let opening = State {
-        stage: 0,
-        region: Region::opening(handed.counts.timers),
-    };
+    let opening = State::opening(handed.counts.timers);
     let list = Plan::of_tables(handed).possible_changes(&opening);
     if list.is_empty() {
         println!(rt; "no change of stage 0 is possible")?;

@@ -46,9 +46,9 @@ pub fn entries_of(
 
 // Makes the calls of a file, and prints a line for each.
 pub fn replay_file(rt: &HostRuntime, mut args: Args) -> anyhow::Result<()> {
-    let (Some(plan), Some(path)) = (file_name(&mut args), file_name(&mut args)) else {
-        return Err(anyhow!("replay takes two files: junction replay PLAN CALLS"));
-    };
+    let (plan, path) = file_name(&mut args)
+        .zip(file_name(&mut args))
+        .context("replay takes two files: junction replay PLAN CALLS")?;
     let options = Options::read(rt.alloc(), Command::Replay, args)?;
     let file = PlanFile::open(rt, plan.as_str())?;
     let calls = calls_in(rt, path.as_str())?;

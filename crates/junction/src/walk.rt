@@ -31,7 +31,7 @@ fn timer_bits(words: &str) -> Option<u16> {
     Some(bits)
 }
 
-// The move that two words ask for, if they ask for one.
+// The move that two words ask for, if they ask for one. No FromStr, which reads one word.
 fn parsed(name: &str, value: &str) -> Option<Move> {
     match name {
         "wait" => Some(Move::Wait(value.parse::<u32>().ok()?)),

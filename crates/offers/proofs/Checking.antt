@@ -5,10 +5,10 @@ use Rattle.plan.specs.declared.handed.Handed.{Handed}
 use Rattle.plan.specs.Handed.{counted_in, fault_in, held_by}
 use Rattle.rows.specs.Plans.{PlanRows}
 use Rattle.rows.specs.Verdicts.{fault_from, faultless, first_in, record_fault}
-use Rattle.rows.proofs.Soundness.{faultless_from_sound, sound_from_faultless, verdict_decides}
+use Rattle.rows.proofs.Soundness.{faultless_from_sound, verdict_decides}
 use Rattle.runs.specs.Plans.{Sound}
 use Rattle.runs.specs.Tables.{plan_in}
-use Rattle.runs.proofs.Tables.{tables_sound}
+pub use Rattle.runs.proofs.Tables.{plan_sound}
 use Rattle.offers.specs.Checked.{blank_rows, checked}
 
 blank_faultless : faultless blank_rows ≡ true
@@ -22,6 +22,6 @@ checked_faultless h =
 pub as_checked_faultless : (h : Handed) (q : PlanRows) → q ≡ checked h → faultless q ≡ true
 as_checked_faultless h q e = ap faultless e ∙ checked_faultless h
 
--- rows that break no rule hold a plan that can be run
-pub plan_sound : (p : PlanRows) → faultless p ≡ true → Sound (plan_in p)
-plan_sound p h = tables_sound p (sound_from_faultless p h)
+-- so the plan in them can be run
+pub checked_sound : (h : Handed) → Sound (plan_in (checked h))
+checked_sound h = plan_sound (checked h) (checked_faultless h)

@@ -2,17 +2,17 @@
 ghost use Rattle.std.specs.Prelude.{◌≡◌, ◌-◌, ◌<◌, ◌≤◌, [], ◌∷◌, ◌++◌, length, drop, replicate, ◌==◌};
 ghost use Rattle.runs.specs.Runs.{blank_offer};
 
+use rows::tables::MOST_CHANGES;
 use runs::Offer;
 
-// The most offers that a list holds.
-pub const MOST: usize = 128;
+// The most offers that a list holds: one for each change that a stage may have.
+pub const MOST: usize = MOST_CHANGES;
 
 // The first `len` items are the offers, and the others are blank. The room is fixed and the list is copied whole, since logs that are lent keep it and nothing grows inside a run.
-#[derive(Clone, Copy, Debug)]
+#[derive(Clone, Copy, Debug, PartialEq, Eq)]
 pub struct OfferList {
     pub(crate) items: [Offer; MOST],
     pub(crate) len: usize,
-    ghost room: { length items ≡ 128 },
     ghost few: { len ≤ 128 },
     ghost blank: { drop len items ≡ replicate (128 - len) blank_offer },
 }

@@ -12,7 +12,7 @@ use crate::list::OfferList;
 use crate::sound_plan::Plan;
 use crate::waits::{Span, cuts};
 use region::Region;
-use rows::tables::{ChangeRow, part};
+use rows::tables::ChangeRow;
 use runs::{Offer, State};
 
 impl Plan<'_> {
@@ -21,7 +21,7 @@ impl Plan<'_> {
         ensures span { span_of result ≡ guard_span (viewed region.now) last (change_of_row (rows_of self.now) change).guard }
         ensures few { result.until ≤ last + 1 }
     {
-        let guard = part(self.rows.comparisons, change.first_guard, change.guards);
+        let guard = self.rows.guard_of(change);
         cuts(region, guard, Span::upto(last))
     }
 
@@ -32,7 +32,7 @@ impl Plan<'_> {
         ensures offers { listed result ≡ offers_at (plan_of self.now) at.now.stage (viewed at.now.region) }
     {
         let row = self.stage_row(at.stage);
-        let changes = part(self.rows.changes, row.first_change, row.changes);
+        let changes = self.rows.changes_of(row);
         let last = self.top(at);
         let mut list = OfferList::none();
         // A plain loop over the changes in their order, as the project fixes it.

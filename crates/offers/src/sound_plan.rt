@@ -18,6 +18,7 @@ pub struct Plan<'a> {
 }
 
 // The tables of the plan in which nothing can happen: one timer, which may run for a second, a stage with no mark, no hold and no change, and a goal with no comparison.
+// Rows of zeros are written out, since a slice that outlives every caller is made of constants, and a default is none.
 fn blank_tables() -> Tables<'static>
     ensures { held_by result ≡ blank_rows }
 {
@@ -54,6 +55,7 @@ fn checked_rows(handed: Handed<'_>) -> Tables<'_>
 
 impl<'a> Plan<'a> {
     // The plan in handed tables if they pass the check, and else the plan in which nothing can happen.
+    #[tactic(auto, using(crate::proofs::Checking::as_checked_faultless))]
     pub fn of_tables(handed: Handed<'a>) -> Plan<'a>
         ensures rows { held_by result.rows ≡ checked handed.entry }
         ensures blank { plan_in blank_rows ≡ blank_plan }

@@ -6,7 +6,7 @@ ghost use Rattle.runs.specs.Tables.{comparison_of_row, stage_of_row};
 
 use crate::sound_plan::Plan;
 use rows::reading::Mark;
-use rows::tables::{ComparisonRow, StageRow, part};
+use rows::tables::{ComparisonRow, StageRow};
 
 impl<'a> Plan<'a> {
     // The row of a stage, and a blank one where the plan has no such stage.
@@ -26,8 +26,7 @@ impl<'a> Plan<'a> {
     pub(crate) fn hold(&self, stage: u16) -> &'a [ComparisonRow]
         ensures { map comparison_of_row result.now ≡ (stage_of (plan_of self.now) stage).hold }
     {
-        let row = self.stage_row(stage);
-        part(self.rows.comparisons, row.first_hold, row.holds)
+        self.rows.hold_of(self.stage_row(stage))
     }
 
     // Whether the goal counts in a stage.
@@ -48,7 +47,6 @@ impl<'a> Plan<'a> {
     pub(crate) fn goal(&self) -> &'a [ComparisonRow]
         ensures { map comparison_of_row result.now ≡ (plan_of self.now).goal }
     {
-        let goal = self.rows.goals[0];
-        part(self.rows.comparisons, goal.first, goal.comparisons)
+        self.rows.comparisons_of(self.rows.goals[0])
     }
 }

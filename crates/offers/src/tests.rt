@@ -3,6 +3,7 @@ use crate::list::OfferList;
 use crate::sound_plan::Plan;
 use crate::waits::{Span, cut, cuts};
 use plan::handed::{Handed, Tables};
+use plan::records::Records;
 use region::Region;
 use rows::reading::{Comparison, Relation, Subject};
 use rows::section::Counts;
@@ -14,14 +15,14 @@ const TEN: TimerRow = TimerRow { ceiling: 10 };
 
 static TIMERS: [TimerRow; 2] = [TEN, TEN];
 
+// These makers of rows are this crate's own: what a crate has for its tests no other crate sees.
+
 // Timer x against a constant.
 fn x(kind: u8, constant: u16) -> ComparisonRow {
     ComparisonRow {
         kind,
-        first: 0,
-        second: 0,
-        filler: 0,
         constant,
+        ..ComparisonRow::default()
     }
 }
 
@@ -72,9 +73,8 @@ fn example(hold: u16) -> Rows {
     let y = ComparisonRow {
         kind: 2,
         first: 1,
-        second: 0,
-        filler: 0,
         constant: 4,
+        ..ComparisonRow::default()
     };
     Rows {
         comparisons: [x(2, hold), x(0, 2), x(2, 5), x(1, 1), y],
@@ -95,12 +95,8 @@ fn plan_of<'a>(rows: &'a Rows, goals: usize) -> Plan<'a> {
         goals: &GOALS,
     };
     let counts = Counts {
-        timers: 2,
-        comparisons: 5,
-        stages: 2,
-        changes: 2,
-        outcomes: 3,
         goals,
+        ..tables.counts()
     };
     Plan::of_tables(Handed { tables, counts })
 }
@@ -116,7 +112,7 @@ fn after(steps: u32) -> Result<Region, Fail> {
 fn at_zero(stage: u16) -> State {
     State {
         stage,
-        region: Region::opening(2),
+        ..State::opening(2)
     }
 }
 
@@ -171,10 +167,7 @@ fn a_guard_after_the_hold_is_not_offered(rt: HostRuntime) {
 fn tables_that_do_not_pass_make_a_plan_in_which_nothing_happens(rt: HostRuntime) {
     let rows = example(3);
     let plan = plan_of(&rows, 2);
-    let at = State {
-        stage: 0,
-        region: Region::opening(1),
-    };
+    let at = State::opening(1);
     assert_eq!(rt; plan.top(&at), 2);
     assert!(rt; plan.possible_changes(&at).is_empty());
 }
@@ -223,17 +216,12 @@ fn a_lead_allows_every_wait_or_none(rt: HostRuntime) -> Result<(), Fail> {
 #[test]
 fn a_stage_offers_as_many_changes_as_it_may_have(rt: HostRuntime) {
     let stage = StageRow {
-        mark: 0,
-        first_hold: 0,
-        holds: 0,
-        first_change: 0,
         changes: 128,
+        ..StageRow::default()
     };
     let change = ChangeRow {
-        first_guard: 0,
-        guards: 0,
-        first_outcome: 0,
         outcomes: 1,
+        ..ChangeRow::default()
     };
     let changes = [change; 128];
     let tables = Tables {
@@ -242,19 +230,9 @@ fn a_stage_offers_as_many_changes_as_it_may_have(rt: HostRuntime) {
         stages: &[stage],
         changes: &changes,
         outcomes: &[outcome(1, 0)],
-        goals: &[GoalRow {
-            first: 0,
-            comparisons: 0,
-        }],
+        goals: &[GoalRow::default()],
     };
-    let counts = Counts {
-        timers: 2,
-        comparisons: 0,
-        stages: 1,
-        changes: 128,
-        outcomes: 1,
-        goals: 1,
-    };
+    let counts = tables.counts();
     let list = Plan::of_tables(Handed { tables, counts }).possible_changes(&at_zero(0));
     assert_eq!(rt; list.len(), 128);
     assert_eq!(rt;

@@ -40,8 +40,7 @@ impl Span {
     pub fn has(self, wait: u32) -> bool
         ensures { result ≡ inside wait (span_of self) }
     {
-        let wait = u64::from(wait);
-        self.from <= wait && wait < self.until
+        (self.from..self.until).contains(&u64::from(wait))
     }
 
     // Those that are at least n.

@@ -1,5 +1,5 @@
 // The rules that every record of a plan has to meet.
-ghost use Rattle.std.specs.Prelude.{◌≡◌, ◌+◌, ◌^◌, ◌<◌, ◌≤◌, length, nat_le};
+ghost use Rattle.std.specs.Prelude.{◌≡◌, ◌+◌, ◌<◌, ◌≤◌, length};
 ghost use Rattle.std.specs.Result.{result_err};
 ghost use Rattle.rows.specs.Plans.{counts_of};
 ghost use Rattle.rows.specs.Sections.{count_of};
@@ -10,13 +10,16 @@ use crate::records::Records;
 use rows::fault::{Fault, Where, placed};
 use rows::refusal::Refusal;
 use rows::section::{Counts, SECTIONS, SectionName};
-use rows::tables::{ChangeRow, ComparisonRow, GoalRow, OutcomeRow, StageRow, TimerRow};
+use rows::tables::{
+    ChangeRow, ComparisonRow, GoalRow, MOST_CHANGES, MOST_COMPARISONS, MOST_OUTCOMES, OutcomeRow,
+    StageRow, TimerRow, names_past,
+};
 
 // Whether a list of n rows from `first` on passes the end of its section. An empty one names nothing.
 fn is_missing(first: u16, n: u16, count: usize) -> bool
     ensures { result ≡ missing first n count }
 {
-    n > 0 && first as usize + n as usize > count
+    n > 0 && usize::from(first) + usize::from(n) > count
 }
 
 fn check_timer(t: TimerRow) -> Result<(), Refusal>
@@ -34,10 +37,10 @@ fn check_comparison(counts: &Counts, c: ComparisonRow) -> Result<(), Refusal>
     if c.kind > 7 || c.filler != 0 || (c.kind < 4 && c.second != 0) {
         return Err(Refusal::BadField);
     }
-    if c.first as usize >= counts.timers {
+    if usize::from(c.first) >= counts.timers {
         return Err(Refusal::NotThere);
     }
-    if c.kind >= 4 && c.second as usize >= counts.timers {
+    if c.kind >= 4 && usize::from(c.second) >= counts.timers {
         return Err(Refusal::NotThere);
     }
     Ok(())
@@ -49,7 +52,7 @@ fn check_stage(counts: &Counts, s: StageRow) -> Result<(), Refusal>
     if s.mark > 3 {
         return Err(Refusal::BadField);
     }
-    if s.holds > 32 || s.changes > 128 {
+    if s.holds > MOST_COMPARISONS || usize::from(s.changes) > MOST_CHANGES {
         return Err(Refusal::CountOffLimits);
     }
     if is_missing(s.first_hold, s.holds, counts.comparisons) {
@@ -61,17 +64,10 @@ fn check_stage(counts: &Counts, s: StageRow) -> Result<(), Refusal>
     Ok(())
 }
 
-// Whether a bit is set past those of the timers.
-fn resets_pass(resets: u16, timers: usize) -> bool
-    ensures { result ≡ nat_le (2 ^ timers) resets }
-{
-    timers < 16 && resets as u32 >= 1u32 << timers
-}
-
 fn check_outcome(counts: &Counts, o: OutcomeRow) -> Result<(), Refusal>
     ensures { result_err result ≡ first_broken (outcome_rules counts.now o) }
 {
-    if o.stage as usize >= counts.stages || resets_pass(o.resets, counts.timers) {
+    if usize::from(o.stage) >= counts.stages || names_past(o.resets, counts.timers) {
         return Err(Refusal::NotThere);
     }
     if o.weight == 0 {
@@ -83,7 +79,7 @@ fn check_outcome(counts: &Counts, o: OutcomeRow) -> Result<(), Refusal>
 fn check_goal(counts: &Counts, g: GoalRow) -> Result<(), Refusal>
     ensures { result_err result ≡ first_broken (goal_rules counts.now g) }
 {
-    if g.comparisons > 32 {
+    if g.comparisons > MOST_COMPARISONS {
         return Err(Refusal::CountOffLimits);
     }
     if is_missing(g.first, g.comparisons, counts.comparisons) {
@@ -92,16 +88,17 @@ fn check_goal(counts: &Counts, g: GoalRow) -> Result<(), Refusal>
     Ok(())
 }
 
-// The sum of the weights of a change's outcomes. A source gives a row by its place, so the loop goes over places.
+// The sum of the weights of a change's outcomes. A source gives a row by its place, so the loop goes over places. Tried: `map` and
+// `sum` over them, which left the bound of the sum unproved.
 fn weights<R: Records>(rows: &R, c: ChangeRow) -> u32
     requires few { c.outcomes ≤ 64 }
     requires inside { c.first_outcome + c.outcomes ≤ length (R.Records.held rows.now).outcomes }
     ensures { result ≡ weights_of (R.Records.held rows.now) c }
 {
-    let first = c.first_outcome as usize;
+    let first = usize::from(c.first_outcome);
     let mut sum: u32 = 0;
-    for i in first..first + c.outcomes as usize {
-        sum += rows.outcome(i).weight as u32;
+    for i in first..first + usize::from(c.outcomes) {
+        sum += u32::from(rows.outcome(i).weight);
     }
     sum
 }
@@ -110,7 +107,7 @@ fn check_change<R: Records>(rows: &R, c: ChangeRow) -> Result<(), Refusal>
     ensures { result_err result ≡ first_broken (change_rules (R.Records.held rows.now) c) }
 {
     let counts = rows.counts();
-    if c.guards > 32 || c.outcomes == 0 || c.outcomes > 64 {
+    if c.guards > MOST_COMPARISONS || !(1..=MOST_OUTCOMES).contains(&c.outcomes) {
         return Err(Refusal::CountOffLimits);
     }
     if is_missing(c.first_guard, c.guards, counts.comparisons) {
@@ -141,7 +138,7 @@ fn check_record<R: Records>(rows: &R, section: SectionName, i: usize) -> Result<
     }
 }
 
-// The records of a section, by their places, or the first that breaks a rule.
+// The records of a section, or the first that breaks a rule. The loop goes over their places, which a fault names.
 fn check_section<R: Records>(rows: &R, section: SectionName) -> Result<(), Fault>
     ensures { result_err result ≡ section_fault (R.Records.held rows.now) section }
 {

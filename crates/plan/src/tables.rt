@@ -4,7 +4,7 @@ ghost use Rattle.std.specs.Result.{result_err};
 ghost use Rattle.rows.specs.Plans.{counts_of};
 ghost use Rattle.rows.specs.Sections.{section_names};
 ghost use Rattle.rows.specs.Sound.{Fits, Sound};
-ghost use Rattle.rows.specs.Verdicts.{count_fault, count_rules, first_broken, first_in};
+ghost use Rattle.rows.specs.Verdicts.{count_fault, first_broken, first_in, room_rules};
 ghost use Rattle.plan.specs.Handed.{counted_in, fault_in, held_by};
 
 use crate::check::check_rows;
@@ -14,15 +14,14 @@ use rows::fault::{Fault, Where, placed};
 use rows::refusal::Refusal;
 use rows::section::{Counts, SECTIONS, SectionName};
 
-// One count, or the rule that it breaks.
-fn check_count(rooms: &Counts, n: &Counts, section: SectionName) -> Result<(), Refusal>
-    ensures { result_err result ≡ first_broken (count_rules rooms.now n.now section) }
+// The count of a section whose table has some room, or the rule that it breaks.
+pub fn check_count(section: SectionName, room: usize, count: usize) -> Result<(), Refusal>
+    ensures { result_err result ≡ first_broken (room_rules section room count) }
 {
-    let count = n.of(section);
-    if count < section.least() || count > section.most() {
+    if !(section.least()..=section.most()).contains(&count) {
         return Err(Refusal::CountOffLimits);
     }
-    if count > rooms.of(section) {
+    if count > room {
         return Err(Refusal::TableTooSmall);
     }
     Ok(())
@@ -33,7 +32,8 @@ fn check_counts(rooms: &Counts, n: &Counts) -> Result<(), Fault>
     ensures { result_err result ≡ first_in (count_fault rooms.now n.now) section_names }
 {
     for section in SECTIONS {
-        placed(check_count(rooms, n, section), Where::Section(section))?;
+        let checked = check_count(section, rooms.of(section), n.of(section));
+        placed(checked, Where::Section(section))?;
     }
     Ok(())
 }

@@ -91,9 +91,9 @@ passed_sound rooms b p h =
     sound_from_rows (plan_of p) (enough_rows rooms b p counted) (bounded_rows rooms b p counted) h.clear
 
 -- so each table has room for the rows of its section, which are whole records, as the code holds their bytes
-pub table_fits : {R : Type 0} (s : SectionName) (row : List ℕ → ℕ → R) (rooms : Counts) (b part d : List ℕ) (room : ℕ) → Counted s rooms b part (length (rows_in row (size_of s) part)) → count_of rooms s ≡ room → d ≡ part → Records (size_of s) d × (length (rows_in row (size_of s) d) ≤ room)
-table_fits s row rooms b part d room counted e same =
-    subst (λ (z : List ℕ). Records (size_of s) z × (length (rows_in row (size_of s) z) ≤ room)) (sym same)
+pub table_fits : {R : Type 0} (s : SectionName) (row : List ℕ → ℕ → R) (rooms : Counts) (b part d : List ℕ) → Counted s rooms b part (length (rows_in row (size_of s) part)) → d ≡ part → Records (size_of s) d × (length (rows_in row (size_of s) d) ≤ count_of rooms s)
+table_fits s row rooms b part d counted same =
+    subst (λ (z : List ℕ). Records (size_of s) z × (length (rows_in row (size_of s) z) ≤ count_of rooms s)) (sym same)
     (counted.whole, let fits = counted.fits in omega arith)
 
 -- the same table, told of equal bytes

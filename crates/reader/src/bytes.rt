@@ -36,6 +36,7 @@ pub trait Row: Copy {
 }
 
 // How many rows stand in the part of the file that a section fills.
+#[tactic(auto, using(rows::proofs::Files::length_rows_in))]
 pub fn count<R: Row>(part: &[u8]) -> usize
     ensures { result ≡ length (rows_in R.Row.parsed R.Row.SIZE part.now) }
 {
@@ -51,6 +52,8 @@ pub fn nth_row<R: Row>(part: &[u8], i: usize) -> R
     R::at(part, i * R::SIZE)
 }
 
+// Each row has its own fields, read in their order, so an impl each. Beside `const SIZE`, the number of the code, stands `ghost SIZE`,
+// the number of the contracts, which has to be the code's.
 impl Row for TimerRow {
     ghost parsed = { timer_at };
 
@@ -58,7 +61,7 @@ impl Row for TimerRow {
 
     ghost SIZE = { 2 };
 
-    const SIZE: usize = 2;
+    const SIZE: usize = TimerRow::SIZE;
 
     ghost some = { some_bytes 1 };
 
@@ -76,7 +79,7 @@ impl Row for ComparisonRow {
 
     ghost SIZE = { 6 };
 
-    const SIZE: usize = 6;
+    const SIZE: usize = ComparisonRow::SIZE;
 
     ghost some = { some_bytes 5 };
 
@@ -98,7 +101,7 @@ impl Row for StageRow {
 
     ghost SIZE = { 10 };
 
-    const SIZE: usize = 10;
+    const SIZE: usize = StageRow::SIZE;
 
     ghost some = { some_bytes 9 };
 
@@ -120,7 +123,7 @@ impl Row for ChangeRow {
 
     ghost SIZE = { 8 };
 
-    const SIZE: usize = 8;
+    const SIZE: usize = ChangeRow::SIZE;
 
     ghost some = { some_bytes 7 };
 
@@ -141,7 +144,7 @@ impl Row for OutcomeRow {
 
     ghost SIZE = { 6 };
 
-    const SIZE: usize = 6;
+    const SIZE: usize = OutcomeRow::SIZE;
 
     ghost some = { some_bytes 5 };
 
@@ -161,7 +164,7 @@ impl Row for GoalRow {
 
     ghost SIZE = { 4 };
 
-    const SIZE: usize = 4;
+    const SIZE: usize = GoalRow::SIZE;
 
     ghost some = { some_bytes 3 };
 

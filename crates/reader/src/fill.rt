@@ -5,14 +5,12 @@ ghost use Rattle.reader.specs.Filling.{Begins, Records};
 
 use crate::bytes::{Row, count, nth_row};
 
-// Writes the rows of a part into the front of a table. The other rows stay. The loop goes over places, since a file gives
-// a row by its place.
+// Writes the rows of a part into the front of a table. The other rows stay.
 pub fn fill<R: Row>(part: &[u8], table: &mut [R])
-    requires whole { Records R.Row.SIZE part.now }
-    requires room { length (rows_in R.Row.parsed R.Row.SIZE part.now) ≤ length table.old }
+    requires { Records R.Row.SIZE part.now × (length (rows_in R.Row.parsed R.Row.SIZE part.now) ≤ length table.old) }
     ensures { Begins R.Row.written part.now (rows_in R.Row.parsed R.Row.SIZE part.now) table.old table.new }
 {
-    for i in 0..count::<R>(part) {
-        table[i] = nth_row(part, i);
+    for (i, row) in table[..count::<R>(part)].iter_mut().enumerate() {
+        *row = nth_row(part, i);
     }
 }

@@ -85,8 +85,8 @@ impl OwnedTables {
     }
 }
 
-// Reads a plan file into tables that are handed one by one. What a `Vec` lends to a struct comes back with nothing known of it;
-// what it lends to a call is known.
+// Reads a plan file into tables that are handed one by one. Tried: `TablesMut` made of the six `Vec`s in `OwnedTables::read`. What a `Vec` lends
+// to a struct comes back with nothing known of it; what it lends to a call is known.
 fn read_rows(
     bytes: &[u8],
     timers: &mut [TimerRow],

@@ -6,6 +6,7 @@ ghost use Rattle.rows.specs.Verdicts.{first_broken};
 ghost use Rattle.reader.specs.Parts.{Cut, bytes_in, name_in};
 
 use crate::bytes::word;
+use plan::tables::check_count;
 use rows::fault::{Fault, Where, placed};
 use rows::refusal::Refusal;
 use rows::section::{Counts, SectionName};
@@ -58,13 +59,8 @@ fn check_part(name: SectionName, room: usize, bytes: &[u8]) -> Result<(), Refusa
     if bytes.len() < 2 {
         return Err(Refusal::FileEnds);
     }
-    let count = word(bytes, 0) as usize;
-    if count < name.least() || count > name.most() {
-        return Err(Refusal::CountOffLimits);
-    }
-    if count > room {
-        return Err(Refusal::TableTooSmall);
-    }
+    let count = usize::from(word(bytes, 0));
+    check_count(name, room, count)?;
     if bytes.len() < 2 + name.size() * count {
         return Err(Refusal::FileEnds);
     }
@@ -83,7 +79,7 @@ pub fn cut<'a>(
         check_part(name, rooms.of(name), bytes),
         Where::Section(name),
     )?;
-    let size = name.size() * word(bytes, 0) as usize;
+    let size = name.size() * usize::from(word(bytes, 0));
     let (part, rest) = bytes[2..].split_at(size);
     Ok((Section::new(name, part), rest))
 }

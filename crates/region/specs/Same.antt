@@ -2,7 +2,7 @@
 use Rattle.std.specs.Prelude.{◌≡◌, Bool, ◌&&◌, ◌==◌, Decides}
 use mathlib.Core.Path.{ap}
 use mathlib.Core.Bool.{beq}
-use Rattle.std.specs.Cmp.{IsPartialEquivalence, booleans_Decides, unsigned_Decides, decided, first_so, second_so, on_per, partial_equiv_from_equiv}
+use Rattle.std.specs.Cmp.{IsEquivalence, IsPartialEquivalence, booleans_Decides, unsigned_Decides, decided, first_so, second_so, on_equiv, partial_equiv_from_equiv}
 use Rattle.std.specs.Cmp.Derive.{both_true}
 use Rattle.std.specs.Cmp.Lexicographic.{pointwise, pointwise_decides}
 use Rattle.theory.specs.Records.{Timer, Record}
@@ -55,6 +55,9 @@ records_decide a b = (
     timers : Decides z (a.timers ≡ b.timers)
     timers = pointwise_decides timers_decide a.timers b.timers
 
--- so it is an equality of regions, by what they show
+-- so it is an equality of regions, by what they show, and one in which each is equal to itself
+pub same_record_is_an_equivalence : IsEquivalence (λ (a b : Region). same_record (viewed a) (viewed b))
+same_record_is_an_equivalence = on_equiv viewed (decided same_record records_decide)
+
 pub same_record_is_an_equality : IsPartialEquivalence (λ (a b : Region). same_record (viewed a) (viewed b))
-same_record_is_an_equality = on_per viewed (partial_equiv_from_equiv (decided same_record records_decide))
+same_record_is_an_equality = partial_equiv_from_equiv same_record_is_an_equivalence

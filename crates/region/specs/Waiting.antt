@@ -1,5 +1,5 @@
 -- When a wait is refused, and what a wait leads to.
-use Rattle.std.specs.Prelude.{ℕ, zero, suc, ◌+◌, ◌*◌, ◌/◌, ◌%◌, ◌<◌, Bool, false, cond, ◌||◌, List, length, Ok, Err, Result, nat_lt, slice_index_or}
+use Rattle.std.specs.Prelude.{ℕ, zero, suc, ◌+◌, ◌*◌, ◌/◌, ◌%◌, ◌<◌, ◌≤◌, Bool, false, cond, ◌||◌, List, length, Ok, Err, Result, nat_lt, slice_index_or}
 use Rattle.rows.specs.declared.refusal.Refusal.{Refusal}
 use Rattle.rows.specs.declared.refusal.Refusal.TheVariants.{WaitOutsideHold}
 use Rattle.rows.specs.declared.tables.TimerRow.{TimerRow}
@@ -27,6 +27,10 @@ passes ceilings d r = passes_below ceilings d r (length r.timers)
 abbrev pub PastACeiling : List TimerRow → ℕ → Record → Type 0
 PastACeiling ceilings d r =
     (i : ℕ) × (i < length r.timers) × (2 * r.classes * ceiling_no ceilings i < count r (timer_no r i) + d)
+
+-- d steps from now every timer stands at 65535 seconds at the most, which its row can say
+abbrev pub InTime : ℕ → Record → Type 0
+InTime d r = (i : ℕ) → i < length r.timers → count r (timer_no r i) + d ≤ 2 * r.classes * 65535
 
 -- what a wait of d steps answers, and the record after it: one past a ceiling is refused and alters nothing
 abbrev pub waited : List TimerRow → ℕ → Record → Result (Unit {0}) Refusal × Record

@@ -17,6 +17,8 @@ use value::TimerValue;
 
 // A record that some timers can show, with room for sixteen of them. The rows past those of the timers say nothing.
 // The table is fixed, since a region is copied inside a run, which must need no memory of its own.
+// Sixteen is written as a number in this crate, since a table of seventeen places stands beside those of sixteen, and no length is computed from another.
+// That a refused wait or reset leaves the region as it was is said by each: it holds of the region before and after.
 #[derive(Clone, Copy, Debug)]
 pub struct Region {
     whole: bool,

@@ -9,6 +9,9 @@ ghost use Rattle.theory.specs.Theorems.{EveryRecordHasItsRegion, FinerTicksTellT
 use crate::Region;
 use crate::value::TimerValue;
 
+// The steps of a second, for one class up to sixteen. The project fixes that they are a table.
+const STEPS_OF_SECOND: [u32; 16] = [2, 4, 6, 8, 10, 12, 14, 16, 18, 20, 22, 24, 26, 28, 30, 32];
+
 impl Region {
     // The region of so many timers at zero. None is taken for one timer, and more than sixteen for sixteen.
     #[tactic(auto, using(theory::proofs::Theorems::every_record_has_its_region))]
@@ -22,7 +25,7 @@ impl Region {
             whole: true,
             classes: 1,
             number,
-            rows: [TimerValue::ZERO; 16],
+            rows: [TimerValue::default(); 16],
         }
     }
 
@@ -68,7 +71,7 @@ impl Region {
         ensures finer_ticks_tell_the_same { FinerTicksTellTheSame }
         ensures steps { result ≡ 2 * (viewed self.now).classes }
     {
-        2 * u32::from(self.classes)
+        STEPS_OF_SECOND[usize::from(self.classes) - 1]
     }
 
     // 0 if some timer stands at a whole second, and else 1.

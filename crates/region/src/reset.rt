@@ -1,6 +1,6 @@
 // A reset of some timers to zero.
-ghost use Rattle.std.specs.Prelude.{◌≡◌, ℕ, Bool, List, ◌+◌, ◌<◌, ◌≤◌, true, map, length, take, is_err, if◌then◌else◌, slice_index};
-ghost use Rattle.region.specs.Resetting.{Placed, bit_no, marks, names_missing, reset_by};
+ghost use Rattle.std.specs.Prelude.{◌≡◌, ℕ, Bool, List, ◌+◌, ◌<◌, ◌≤◌, true, map, take, is_err, if◌then◌else◌, slice_index};
+ghost use Rattle.region.specs.Resetting.{Placed, marks, reset_by};
 ghost use Rattle.region.specs.Viewed.{viewed};
 ghost use Rattle.region.specs.Views.{timer_in};
 ghost use Rattle.theory.specs.Records.{fresh, live, ranked, reranked};
@@ -10,14 +10,7 @@ ghost use Rattle.theory.specs.Theorems.{ResettingTheTimersResetsTheRecord};
 use crate::Region;
 use crate::value::TimerValue;
 use rows::refusal::Refusal;
-
-// Whether a timer is named: bit i of `timers` stands for timer i. A struct round these bits would only name them again.
-fn is_named(timers: u16, timer: usize) -> bool
-    requires { timer < 16 }
-    ensures { result ≡ bit_no timers timer }
-{
-    (timers >> timer) % 2 == 1
-}
+use rows::tables::{names, names_past};
 
 // The place of each rank, and of one more, among zero and the live classes.
 fn places(live: &[u8; 16]) -> [u8; 17]
@@ -32,27 +25,21 @@ fn places(live: &[u8; 16]) -> [u8; 17]
 }
 
 impl Region {
-    // Whether a timer is named that is not there.
-    fn names_missing(&self, timers: u16) -> bool
-        ensures { result ≡ names_missing timers (viewed self.now) }
-    {
-        u32::from(timers) >= 1u32 << self.number
-    }
-
     // 1 at each rank that a timer has which is not named. Numbers and no flags, since `places` sums them.
     fn held_ranks(&self, timers: u16) -> [u8; 16]
         ensures { (j : ℕ) → j < 16 → slice_index result j ≡ ranked (unmarked (marks self.now.number timers) (viewed self.now).timers) j }
     {
         let mut held = [0; 16];
         for (timer, row) in self.values().iter().enumerate() {
-            if !is_named(timers, timer) {
+            if !names(timers, timer) {
                 held[usize::from(row.rank)] = 1;
             }
         }
         held
     }
 
-    // 1 at the rank of each live class: one above zero that a timer has which is not named.
+    // 1 at the rank of each live class: one above zero that a timer has which is not named. Numbers, as in `held_ranks`.
+    #[tactic(auto, using(crate::proofs::Placed::live_written, crate::proofs::Placed::live_kept))]
     fn live_classes(&self, timers: u16) -> [u8; 16]
         ensures { (j : ℕ) → j < 16 → slice_index result j ≡ live (marks self.now.number timers) (viewed self.now) j }
     {
@@ -63,13 +50,20 @@ impl Region {
         live
     }
 
+    // The place of each rank, and of one more, among zero and the classes that live on.
+    fn places_after(&self, timers: u16) -> [u8; 17]
+        ensures { Placed result (marks self.now.number timers) (viewed self.now) }
+    {
+        places(&self.live_classes(timers))
+    }
+
     // The row of a timer after the reset. One that is not named keeps its seconds, and takes its place among zero and the live classes.
     fn row_reset(&self, row: TimerValue, is_named: bool, places: &[u8; 17]) -> TimerValue
         requires { row.rank < self.now.classes }
         ensures { (named : List Bool) → Placed places.now named (viewed self.now) → timer_in result ≡ (if is_named then fresh else reranked named (viewed self.now) (timer_in row)) }
     {
         if is_named {
-            return TimerValue::ZERO;
+            return TimerValue::default();
         }
         if self.whole && row.rank == 0 {
             return row;
@@ -87,7 +81,7 @@ impl Region {
     {
         let mut rows = self.rows;
         for (timer, row) in rows[..self.timers()].iter_mut().enumerate() {
-            *row = self.row_reset(*row, is_named(timers, timer), places);
+            *row = self.row_reset(*row, names(timers, timer), places);
         }
         rows
     }
@@ -100,14 +94,13 @@ impl Region {
         ensures refused_unchanged { is_err result ≡ true → self.new ≡ self.old }
         ensures none_named_unchanged { timers ≡ 0 → self.new ≡ self.old }
     {
-        if self.names_missing(timers) {
+        if names_past(timers, self.timers()) {
             return Err(Refusal::NotThere);
         }
         if timers == 0 {
             return Ok(());
         }
-        let live = self.live_classes(timers);
-        let places = places(&live);
+        let places = self.places_after(timers);
         *self = Region {
             whole: true,
             classes: places[usize::from(self.classes)],

@@ -1,9 +1,9 @@
 // A wait of any number of steps at once.
-ghost use Rattle.std.specs.Prelude.{◌≡◌, ℕ, ◌+◌, ◌*◌, ◌/◌, ◌<◌, ◌≤◌, true, false, map, length, take, is_err, Decides, nat_lt};
+ghost use Rattle.std.specs.Prelude.{◌≡◌, ◌+◌, ◌*◌, ◌≤◌, true, false, map, take, is_err, Decides, nat_lt};
 ghost use Rattle.region.specs.Viewed.{viewed};
-ghost use Rattle.region.specs.Views.{blank, timer_in};
-ghost use Rattle.region.specs.Waiting.{PastACeiling, ceiling_no, passes, row_at, waited};
-ghost use Rattle.theory.specs.Records.{count, timer_no, wait};
+ghost use Rattle.region.specs.Views.{timer_in};
+ghost use Rattle.region.specs.Waiting.{InTime, PastACeiling, ceiling_no, passes, row_at, waited};
+ghost use Rattle.theory.specs.Records.{count, wait};
 ghost use Rattle.theory.specs.Theorems.{AWaitCrossesWhatTimeCrosses, OneStepIsTheNextRegion, StepsAtOnceAreSingleSteps};
 
 use crate::Region;
@@ -21,7 +21,8 @@ fn ceiling_of(ceilings: &[TimerRow], timer: usize) -> u16
 impl Region {
     // Whether a timer that has this row would stand past so many seconds so many steps from now.
     fn timer_passes(&self, row: TimerValue, steps: u32, ceiling: u16) -> bool
-        ensures { result ≡ nat_lt (2 * self.now.classes * ceiling) (count (viewed self.now) (timer_in row) + steps) }
+        ensures tells { result ≡ nat_lt (2 * self.now.classes * ceiling) (count (viewed self.now) (timer_in row) + steps) }
+        ensures bounds { result ≡ false → count (viewed self.now) (timer_in row) + steps ≤ 2 * self.now.classes * 65535 }
     {
         let limit = self.steps_per_second() * u32::from(ceiling);
         u64::from(self.count_of(row)) + u64::from(steps) > u64::from(limit)
@@ -30,14 +31,13 @@ impl Region {
     // Whether some timer would stand past its ceiling so many steps from now.
     fn passes(&self, steps: u32, ceilings: &[TimerRow]) -> bool
         ensures tells { result ≡ passes ceilings.now steps (viewed self.now) }
-        ensures bounds { result ≡ false → (i : ℕ) → i < self.now.number → count (viewed self.now) (timer_no (viewed self.now) i) + steps ≤ 2 * self.now.classes * 65535 }
+        ensures in_time { result ≡ false → InTime steps (viewed self.now) }
     {
-        for (timer, row) in self.values().iter().enumerate() {
-            if self.timer_passes(*row, steps, ceiling_of(ceilings, timer)) {
-                return true;
-            }
-        }
-        false
+        self.values().iter().enumerate().any(|(timer, row)| self.timer_passes(
+            *row,
+            steps,
+            ceiling_of(ceilings, timer),
+        ))
     }
 
     // The row of a timer that stands so many steps after zero.
@@ -54,7 +54,7 @@ impl Region {
 
     // The rows so many steps from now.
     fn rows_after(&self, steps: u32) -> [TimerValue; 16]
-        requires { (i : ℕ) → i < self.now.number → count (viewed self.now) (timer_no (viewed self.now) i) + steps ≤ 2 * self.now.classes * 65535 }
+        requires { InTime steps (viewed self.now) }
         ensures { map timer_in (take self.now.number result) ≡ (wait steps (viewed self.now)).timers }
     {
         let mut rows = self.rows;

@@ -1,14 +1,15 @@
 -- The first fault, found record by record and section by section.
-use Rattle.std.proofs.Common.{◌≡◌, ℕ, suc, ◌+◌, ◌-◌, ◌<◌, ◌≤◌, List, [], ◌∷◌, get_or, drop, None, Option, sym, refl, ap, ◌∙◌, arith}
+use Rattle.std.proofs.Common.{◌≡◌, ℕ, suc, ◌+◌, ◌-◌, ◌<◌, ◌≤◌, List, [], ◌∷◌, get_or, drop, None, Err, Ok, Option, Result, IsErrAnd, sym, refl, ap, ◌∙◌, arith}
 use Rattle.std.proofs.lemmas.List.{at_drop_more, at_drop_all}
 use Rattle.rows.specs.declared.fault.Fault.{Fault}
-use Rattle.rows.specs.declared.fault.Where.TheVariants.{Record}
+use Rattle.rows.specs.declared.fault.Where.TheVariants.{Record, Section}
 use Rattle.rows.specs.declared.refusal.Refusal.{Refusal}
+use Rattle.rows.specs.declared.section.Counts.{Counts}
 use Rattle.rows.specs.declared.section.SectionName.{SectionName}
 use Rattle.rows.specs.declared.section.SectionName.TheVariants.{Timers}
 use Rattle.rows.specs.Plans.{PlanRows}
-use Rattle.rows.specs.Sections.{section_names}
-use Rattle.rows.specs.Verdicts.{first_broken, fault_at, fault_from, first_in, or_else, record_fault, record_rules}
+use Rattle.rows.specs.Sections.{count_of, section_names}
+use Rattle.rows.specs.Verdicts.{count_fault, first_broken, fault_at, fault_from, first_in, or_else, record_fault, record_rules, room_rules}
 
 pub fault_from_none : (p : PlanRows) (s : SectionName) (i : ℕ) → fault_from p s i 0 ≡ None
 unfolding fault_from
@@ -48,6 +49,18 @@ section_step look i o h e =
     ap (λ z. or_else z (first_in look (drop (i + 1) section_names))) e
     ∙ sym (at_drop_more (first_in look) section_names i Timers h ∙ first_in_cons look (get_or section_names i Timers) (drop (i + 1) section_names))
 
+-- likewise of the counts of the sections
+pub count_step : (rooms n : Counts) (i room count : ℕ) (checked : Option Refusal) (o : Option Fault) → i < 6 → room ≡ count_of rooms (get_or section_names i Timers) → count ≡ count_of n (get_or section_names i Timers) → checked ≡ first_broken (room_rules (get_or section_names i Timers) room count) → o ≡ fault_at (Section (get_or section_names i Timers)) checked → or_else o (first_in (count_fault rooms n) (drop (i + 1) section_names)) ≡ first_in (count_fault rooms n) (drop i section_names)
+count_step rooms n i room count checked o h r k e f =
+    let s = get_or section_names i Timers in
+    section_step (count_fault rooms n) i o h
+    (f ∙ ap (fault_at (Section s)) (e ∙ ap (λ m. first_broken (room_rules s m count)) r ∙ ap (λ m. first_broken (room_rules s (count_of rooms s) m)) k))
+
 -- past the last section nothing is found
 pub no_section : (look : SectionName → Option Fault) (i : ℕ) → 6 ≤ i → None ≡ first_in look (drop i section_names)
 no_section look i h = sym (at_drop_all (first_in look) section_names i h ∙ first_in_none look)
+
+-- the exit of a `?` returns the fault that was found
+pub exit_told : {T E : Type 0} {x : E} (r : Result T E) → IsErrAnd r (λ y. y ≡ x) → r ≡ Err x
+exit_told (Ok _) h = absurd h
+exit_told (Err y) h = ap (λ z. Err z) h

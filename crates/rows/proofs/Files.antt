@@ -1,7 +1,7 @@
 -- Reading a file gives the plan back that it is the file of.
 use Rattle.std.proofs.Common.{◌≡◌, ℕ, zero, suc, ◌+◌, ◌*◌, ◌/◌, ◌%◌, ◌<◌, ◌≤◌, List, [], ◌∷◌, ◌++◌, map, length, get_or, take, drop, Some, None, Option, sym, refl, ap, ◌∙◌, add_assoc, mul-le-mul_right, suc-mul, mul-zero, zero-mul, mul-suc, div-mul-le_self, arith}
-use native.Mathlib.Nat.{div-eq_of_eq-mul_right}
-use Rattle.std.proofs.lemmas.List.{append-nil, length-append, length-drop, length-take-le, take_at, drop_at, take-append-drop, drop-drop, drop_more, get_or-append-add, ext_get_or}
+use native.Mathlib.Nat.{div-add-mod, div-eq_of_eq-mul_right}
+use Rattle.std.proofs.lemmas.List.{append-nil, length-append, length-drop, length-take-le, take_at, drop_at, take-append-drop, drop-drop, at_drop_more, get_or-append-add, ext_get_or}
 use Rattle.std.proofs.lemmas.List.FromFn.{length-map-range_with_len, get_or-map-range_with_len}
 use Rattle.std.proofs.lemmas.Bool.Decides.{nat_tests}
 use Rattle.std.specs.List.{range_with_len, flat_map}
@@ -15,7 +15,7 @@ use Rattle.rows.specs.Files.{word_at, timer_at, comparison_at, stage_at, change_
 use Rattle.rows.specs.Sections.{size_of, least_of, most_of, count_of}
 use Rattle.rows.specs.Sound.{Fits, Sound}
 use Rattle.rows.specs.Verdicts.{first_broken, fault_at, rows_fault, no_timer, no_comparison, no_stage, no_change, no_outcome, no_goal}
-use Rattle.rows.proofs.Soundness.{fault_at_none, kept_from_none, none_from_kept, no_row_fault}
+use Rattle.rows.proofs.Soundness.{kept_at, none_at, no_row_fault}
 use Rattle.rows.specs.Plans.{PlanRows, counts_of, file_of, section_bytes, word, timer_bytes, comparison_bytes, stage_bytes, change_bytes, outcome_bytes, goal_bytes}
 
 -- two bytes are the number that they spell
@@ -24,10 +24,6 @@ word_of_bytes h l small =
     let high : (256 * h + l) / 256 ≡ h = omega arith in
     let low : (256 * h + l) % 256 ≡ l = omega arith in
     cc
-
--- and a number is what its two bytes spell
-pub bytes_of_word : (n : ℕ) → 256 * (n / 256) + n % 256 ≡ n
-bytes_of_word n = omega arith
 
 -- a row is read where it was written, whatever follows, and what stands before it does not matter
 pub record Reads {R : Type 0} (row : List ℕ → ℕ → R) (bytes : R → List ℕ) (size : ℕ) : Type 0 where
@@ -55,7 +51,7 @@ pub reads_timer : Reads timer_at timer_bytes 2
 reads_timer =
     record {
       sized = λ r. refl;
-      front = λ r more. let e = bytes_of_word r.ceiling in λ i. record { ceiling = e i };
+      front = λ r more. let e = div-add-mod r.ceiling 256 in λ i. record { ceiling = e i };
       later = λ before more i. let e = word_later before more i in λ j. record { ceiling = e j };
     }
 
@@ -64,7 +60,7 @@ reads_comparison =
     record {
       sized = λ r. refl;
       front = λ r more.
-          let e = bytes_of_word r.constant in
+          let e = div-add-mod r.constant 256 in
           λ i. record { kind = r.kind; first = r.first; second = r.second; filler = r.filler; constant = e i };
       later = λ before more i.
           let a = get_or-append-add before more i 0 in
@@ -80,11 +76,11 @@ reads_stage =
     record {
       sized = λ r. refl;
       front = λ r more.
-          let a = bytes_of_word r.mark in
-          let b = bytes_of_word r.first_hold in
-          let c = bytes_of_word r.holds in
-          let d = bytes_of_word r.first_change in
-          let e = bytes_of_word r.changes in
+          let a = div-add-mod r.mark 256 in
+          let b = div-add-mod r.first_hold 256 in
+          let c = div-add-mod r.holds 256 in
+          let d = div-add-mod r.first_change 256 in
+          let e = div-add-mod r.changes 256 in
           λ i. record { mark = a i; first_hold = b i; holds = c i; first_change = d i; changes = e i };
       later = λ before more i.
           let a = word_later before more i in
@@ -100,10 +96,10 @@ reads_change =
     record {
       sized = λ r. refl;
       front = λ r more.
-          let a = bytes_of_word r.first_guard in
-          let b = bytes_of_word r.guards in
-          let c = bytes_of_word r.first_outcome in
-          let d = bytes_of_word r.outcomes in
+          let a = div-add-mod r.first_guard 256 in
+          let b = div-add-mod r.guards 256 in
+          let c = div-add-mod r.first_outcome 256 in
+          let d = div-add-mod r.outcomes 256 in
           λ i. record { first_guard = a i; guards = b i; first_outcome = c i; outcomes = d i };
       later = λ before more i.
           let a = word_later before more i in
@@ -118,9 +114,9 @@ reads_outcome =
     record {
       sized = λ r. refl;
       front = λ r more.
-          let a = bytes_of_word r.weight in
-          let b = bytes_of_word r.stage in
-          let c = bytes_of_word r.resets in
+          let a = div-add-mod r.weight 256 in
+          let b = div-add-mod r.stage 256 in
+          let c = div-add-mod r.resets 256 in
           λ i. record { weight = a i; stage = b i; resets = c i };
       later = λ before more i.
           let a = word_later before more i in
@@ -134,8 +130,8 @@ reads_goal =
     record {
       sized = λ r. refl;
       front = λ r more.
-          let a = bytes_of_word r.first in
-          let b = bytes_of_word r.comparisons in
+          let a = div-add-mod r.first 256 in
+          let b = div-add-mod r.comparisons 256 in
           λ i. record { first = a i; comparisons = b i };
       later = λ before more i.
           let a = word_later before more i in
@@ -188,7 +184,7 @@ pub record Laid (s : SectionName) (n : ℕ) (part more b : List ℕ) : Type 0 wh
 pub section_laid : (s : SectionName) (n : ℕ) (part more : List ℕ) → length part ≡ size_of s * n → Laid s n part more (word n ++ part ++ more)
 unfolding part_in after
 section_laid s n part more sized =
-    let count : word_at (word n ++ part ++ more) 0 ≡ n = bytes_of_word n in
+    let count : word_at (word n ++ part ++ more) 0 ≡ n = div-add-mod n 256 in
     let bytes : record_bytes s (word n ++ part ++ more) ≡ length part = ap (λ k. size_of s * k) count ∙ sym sized in
     let all = length-append part more in
     record {
@@ -208,9 +204,8 @@ laid_passes s n part more b rooms laid low high room =
     let count = laid.count in
     let long = laid.long in
     let bytes : record_bytes s b ≡ size_of s * n = ap (λ k. size_of s * k) count in
-    ap (fault_at (Section s))
-    (none_from_kept (layout_rules s (count_of rooms s) b)
-    (grind (arith, nat_tests), (grind (arith, nat_tests), (grind (arith, nat_tests), (grind (arith, nat_tests), tt)))))
+    none_at (Section s) (layout_rules s (count_of rooms s) b)
+    (grind (arith, nat_tests), (grind (arith, nat_tests), (grind (arith, nat_tests), (grind (arith, nat_tests), tt))))
 
 -- the section of some rows, with more bytes behind it, is found again
 laid_rows : {R : Type 0} (s : SectionName) (row : List ℕ → ℕ → R) (bytes : R → List ℕ) → Reads row bytes (size_of s) → (rows : List R) (more : List ℕ) → Laid s (length rows) (flat_map bytes rows) more (section_bytes bytes rows ++ more)
@@ -305,12 +300,9 @@ no_file_fault p rooms b c sound fits =
 
 -- a part of the bytes, byte by byte and number by number
 
-pub take_byte : (n : ℕ) (b : List ℕ) (i : ℕ) → i < length b → take (suc n) (drop i b) ≡ get_or b i 0 ∷ take n (drop (i + 1) b)
-take_byte n b i h = ap (take (suc n)) (drop_more b i 0 h)
-
 pub take_two : (b : List ℕ) (i : ℕ) → i + 2 ≤ length b → take 2 (drop i b) ≡ get_or b i 0 ∷ get_or b (i + 1) 0 ∷ []
 take_two b i h =
-    take_byte 1 b i (omega arith) ∙ ap (λ z. get_or b i 0 ∷ z) (take_byte 0 b (i + 1) (omega arith))
+    at_drop_more (take 2) b i 0 (omega arith) ∙ ap (λ z. get_or b i 0 ∷ z) (at_drop_more (take 1) b (i + 1) 0 (omega arith))
 
 -- the verdict on one section, from what a check of its rules found
 pub part_checked : (s : SectionName) (rooms : Counts) (b : List ℕ) (room : ℕ) (checked : Option Refusal) (o : Option Fault) → room ≡ count_of rooms s → checked ≡ first_broken (layout_rules s room b) → o ≡ fault_at (Section s) checked → part_fault s rooms b ≡ o
@@ -362,14 +354,14 @@ row_read row size b i d h =
 pub part_within : (s : SectionName) (rooms : Counts) (b : List ℕ) → part_fault s rooms b ≡ None → (least_of s ≤ word_at b 0) × (word_at b 0 ≤ most_of s) × (word_at b 0 ≤ count_of rooms s)
 unfolding part_fault
 part_within s rooms b h =
-    let kept = kept_from_none (layout_rules s (count_of rooms s) b) (fault_at_none (Section s) (first_broken (layout_rules s (count_of rooms s) b)) h) in
+    let kept = kept_at (Section s) (layout_rules s (count_of rooms s) b) h in
     (grind (arith, nat_tests), grind (arith, nat_tests), grind (arith, nat_tests))
 
 -- and all its bytes are there
 pub part_long : (s : SectionName) (rooms : Counts) (b : List ℕ) → part_fault s rooms b ≡ None → 2 + size_of s * word_at b 0 ≤ length b
 unfolding part_fault
 part_long s rooms b h =
-    let kept = kept_from_none (layout_rules s (count_of rooms s) b) (fault_at_none (Section s) (first_broken (layout_rules s (count_of rooms s) b)) h) in
+    let kept = kept_at (Section s) (layout_rules s (count_of rooms s) b) h in
     grind (arith, nat_tests)
 
 -- a file with a fault is not that of a sound plan that fits the tables

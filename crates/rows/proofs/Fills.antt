@@ -1,5 +1,5 @@
 -- A loop that writes rows into the front of a table, one after the other.
-use Rattle.std.proofs.Common.{◌≡◌, ℕ, suc, ◌+◌, ◌*◌, ◌<◌, List, [], ◌∷◌, ◌++◌, length, get_or, take, drop, set, sym, refl, ap, ◌∙◌, suc-mul, mul_comm, zero-mul, arith, take-add}
+use Rattle.std.proofs.Common.{◌≡◌, ℕ, suc, ◌+◌, ◌*◌, ◌<◌, List, [], ◌∷◌, ◌++◌, length, get_or, take, drop, set, sym, ap, ◌∙◌, suc-mul, mul_comm, arith, take-add}
 use Rattle.std.proofs.lemmas.List.{drop-drop, drop-set-lt, flat_map_more, take_all, take-append-drop, take_more, take_more_set}
 use Rattle.std.specs.List.{flat_map}
 
@@ -8,10 +8,6 @@ pub record Filled {R : Type 0} (written : R → List ℕ) (size : ℕ) (part : L
   pub front : take i table ≡ take i rows
   pub rest : drop i table ≡ drop i before
   pub bytes : flat_map written (take i rows) ≡ take (i * size) part
-
-pub filled_none : {R : Type 0} (written : R → List ℕ) (size : ℕ) (part : List ℕ) (rows table : List R) → Filled written size part rows table table 0
-filled_none written size part rows table =
-    record { front = refl; rest = refl; bytes = sym (ap (λ k. take k part) (zero-mul size)) }
 
 pub filled_more : {R : Type 0} (written : R → List ℕ) (size : ℕ) (part : List ℕ) (rows before table : List R) (i : ℕ) (r : R) → Filled written size part rows before table i → i < length table → i < length rows → r ≡ get_or rows i r → written r ≡ take size (drop (i * size) part) → Filled written size part rows before (set table i r) (i + 1)
 filled_more written size part rows before table i r done room there value whole =

@@ -1,4 +1,3 @@
-pub mod Cuts
 pub mod Faults
 pub mod Files
 pub mod Fills

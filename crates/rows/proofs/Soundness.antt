@@ -33,14 +33,26 @@ passed : (b : Bool) (e : Refusal) (o : Option Refusal) → cond b (Some e) o ≡
 passed true e o h = absurd (let z : ◌≡◌ {A = ℕ} 0 1 = cc in omega arith)
 passed false e o h = (refl, h)
 
-pub kept_from_none : (rules : List Rule) → first_broken rules ≡ None → Kept rules
+kept_from_none : (rules : List Rule) → first_broken rules ≡ None → Kept rules
 kept_from_none [] e = tt
 kept_from_none (rule ∷ rules) e =
     let h = passed rule.0 rule.1 (first_broken rules) e in (h.0, kept_from_none rules h.1)
 
-pub none_from_kept : (rules : List Rule) → Kept rules → first_broken rules ≡ None
+none_from_kept : (rules : List Rule) → Kept rules → first_broken rules ≡ None
 none_from_kept [] h = refl
 none_from_kept (rule ∷ rules) h = ap (λ b. cond b (Some rule.1) (first_broken rules)) h.0 ∙ none_from_kept rules h.1
+
+fault_at_none : (w : Where) (o : Option Refusal) → fault_at w o ≡ None → o ≡ None
+fault_at_none w None h = refl
+fault_at_none w (Some e) h = absurd (let z : ◌≡◌ {A = ℕ} 0 1 = cc in omega arith)
+
+-- a place has no fault exactly if its rules are kept
+
+pub kept_at : (w : Where) (rules : List Rule) → fault_at w (first_broken rules) ≡ None → Kept rules
+kept_at w rules h = kept_from_none rules (fault_at_none w (first_broken rules) h)
+
+pub none_at : (w : Where) (rules : List Rule) → Kept rules → fault_at w (first_broken rules) ≡ None
+none_at w rules h = ap (fault_at w) (none_from_kept rules h)
 
 -- each kind of record keeps its rules exactly if it is sound
 
@@ -115,17 +127,13 @@ or_else_none (Some f) b h = absurd (let z : ◌≡◌ {A = ℕ} 0 1 = cc in omeg
 none_or_else : (a b : Option Fault) → a ≡ None → b ≡ None → or_else a b ≡ None
 none_or_else a b e f = ap (λ z. or_else z b) e ∙ f
 
-pub fault_at_none : (w : Where) (o : Option Refusal) → fault_at w o ≡ None → o ≡ None
-fault_at_none w None h = refl
-fault_at_none w (Some e) h = absurd (let z : ◌≡◌ {A = ℕ} 0 1 = cc in omega arith)
-
 record_kept : (p : PlanRows) (s : SectionName) (i : ℕ) → record_fault p s i ≡ None → Kept (record_rules p s i)
 unfolding record_fault
-record_kept p s i h = kept_from_none (record_rules p s i) (fault_at_none (Record s i) (first_broken (record_rules p s i)) h)
+record_kept p s i h = kept_at (Record s i) (record_rules p s i) h
 
 kept_record : (p : PlanRows) (s : SectionName) (i : ℕ) → Kept (record_rules p s i) → record_fault p s i ≡ None
 unfolding record_fault
-kept_record p s i h = ap (fault_at (Record s i)) (none_from_kept (record_rules p s i) h)
+kept_record p s i h = none_at (Record s i) (record_rules p s i) h
 
 -- a section has no fault exactly if each of its records keeps its rules
 
@@ -173,7 +181,7 @@ each_section P h Goal = h.1.1.1.1.1.0
 pub counts_within : (rooms n : Counts) → first_in (count_fault rooms n) section_names ≡ None → (s : SectionName) → (least_of s ≤ count_of n s) × (count_of n s ≤ most_of s) × (count_of n s ≤ count_of rooms s)
 counts_within rooms n h s =
     let counted = each_section (λ s. count_fault rooms n s ≡ None) (sections_none (count_fault rooms n) section_names h) s in
-    let kept = kept_from_none (count_rules rooms n s) (fault_at_none (Section s) (first_broken (count_rules rooms n s)) counted) in
+    let kept = kept_at (Section s) (count_rules rooms n s) counted in
     (grind (arith, nat_tests), grind (arith, nat_tests), grind (arith, nat_tests))
 
 -- rows without a fault, as many as are allowed, make a sound plan
@@ -228,7 +236,7 @@ none_from_sound rooms n p e fits h =
     (grind (arith, nat_tests), (grind (arith, nat_tests), tt)) in
     none_or_else (first_in (count_fault rooms n) section_names) (rows_fault p)
     (none_sections (count_fault rooms n) section_names
-    (λ s. ap (fault_at (Section s)) (none_from_kept (count_rules rooms n s) (kept s))))
+    (λ s. none_at (Section s) (count_rules rooms n s) (kept s)))
     (no_row_fault p h)
 
 -- a plan breaks no rule exactly if it is sound
@@ -270,10 +278,13 @@ verdict_decides n p = (
 )
 
 -- the same, at a check that answers the verdict
-pub checked_decides : (n : Counts) (p : PlanRows) (r : Result (Unit {0}) Fault) → result_err r ≡ tables_fault (counts_of p) n (front n p) → Decides (is_ok r) (Fits n (counts_of p) × Sound (front n p))
-checked_decides n p r e =
-    Decides-at (is_ok r) (not (is_some (tables_fault (counts_of p) n (front n p)))) (passes r ∙ ap (λ o. not (is_some o)) e) (verdict_decides n p)
+pub checked_decides : (n rooms : Counts) (p : PlanRows) (r : Result (Unit {0}) Fault) (o : Option Fault) → rooms ≡ counts_of p → o ≡ first_in (count_fault rooms n) section_names → result_err r ≡ or_else o (rows_fault (front n p)) → Decides (is_ok r) (Fits n (counts_of p) × Sound (front n p))
+checked_decides n rooms p r o same counts e =
+    Decides-at (is_ok r) (not (is_some (tables_fault (counts_of p) n (front n p)))) (passes r ∙ ap (λ x. not (is_some x)) told) (verdict_decides n p)
   where
+    told : result_err r ≡ tables_fault (counts_of p) n (front n p)
+    told = e ∙ ap (λ x. or_else x (rows_fault (front n p))) (counts ∙ ap (λ m. first_in (count_fault m n) section_names) same)
+
     passes : (r : Result (Unit {0}) Fault) → is_ok r ≡ not (is_some (result_err r))
     passes (Ok _) = refl
     passes (Err _) = refl

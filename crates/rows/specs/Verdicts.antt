@@ -148,10 +148,13 @@ rows_fault p = first_in (section_fault p) section_names
 abbrev pub off_limits : SectionName → ℕ → Bool
 off_limits s n = nat_lt n (least_of s) || nat_lt (most_of s) n
 
--- the rules of one count: within its limits, and no more than its table has room for
+-- the rules of a count: within the limits of its section, and no more than its table has room for
+abbrev pub room_rules : SectionName → ℕ → ℕ → List Rule
+room_rules s room count = (off_limits s count, CountOffLimits) ∷ (nat_lt room count, TableTooSmall) ∷ []
+
+-- the rules of the count of a section, where the tables have some rooms
 abbrev pub count_rules : Counts → Counts → SectionName → List Rule
-count_rules rooms n s =
-    (off_limits s (count_of n s), CountOffLimits) ∷ (nat_lt (count_of rooms s) (count_of n s), TableTooSmall) ∷ []
+count_rules rooms n s = room_rules s (count_of rooms s) (count_of n s)
 
 -- the first broken rule of one count
 abbrev pub count_fault : Counts → Counts → SectionName → Option Fault

@@ -34,7 +34,8 @@ pub enum Mark {
     Both,
 }
 
-// Every number has a relation, so that a row can be read before it is checked: TryFrom would answer an error here.
+// Every number has a relation, so that a row can be read before it is checked: TryFrom would answer an error here. No From, since a
+// kind says more than its relation: whether it is a lead.
 fn relation_of(kind: u8) -> Relation
     ensures { result ≡ relation_of kind }
 {
@@ -47,7 +48,8 @@ fn relation_of(kind: u8) -> Relation
 }
 
 impl ComparisonRow {
-    // The comparison of a row. It is no From, since it promises more than its value: a row whose numbers are known is the row of its comparison.
+    // The comparison of a row: a row whose numbers are known is the row of its comparison. A method and no From, since callers read
+    // `row.reading()`, which is plainer than a conversion.
     pub fn reading(self) -> Comparison
         ensures value { result ≡ reading_of self }
         ensures a_known_row_is_the_row_of_its_reading { self.kind < 8 → self.filler ≡ 0 → (self.kind < 4 → self.second ≡ 0) → row_of result ≡ self }
@@ -66,7 +68,8 @@ impl ComparisonRow {
 }
 
 impl StageRow {
-    // The mark of a stage. Every number has one, where TryFrom would answer an error. A known number is the number of its mark.
+    // The mark of a stage. Every number has one, where TryFrom would answer an error; a known number is the number of its mark. No From,
+    // since it is a stage that is marked and no number.
     pub fn marking(self) -> Mark
         ensures value { result ≡ mark_of self.mark }
         ensures a_known_number_is_that_of_its_mark { self.mark < 4 → mark_number result ≡ self.mark }

@@ -37,7 +37,7 @@ pub enum Refusal {
 }
 
 impl Refusal {
-    // The number that the rules give this refusal.
+    // The number that the rules give this refusal. A method and no From, so that a caller says that it wants the number.
     pub fn number(self) -> u8
         ensures { result ≡ number_of self }
     {

@@ -2,6 +2,7 @@
 ghost use Rattle.std.specs.Prelude.{◌≡◌, Some};
 ghost use Rattle.rows.specs.Sections.{count_of, least_of, most_of, size_of, text_of};
 
+use crate::tables::{ChangeRow, ComparisonRow, GoalRow, OutcomeRow, StageRow, TimerRow};
 use std::fmt;
 
 #[derive(Clone, Copy, Debug, PartialEq, Eq)]
@@ -36,6 +37,20 @@ pub struct Counts {
 }
 
 impl Counts {
+    // As many rows of each section as a plan may have.
+    pub fn largest() -> Counts
+        ensures { (section : SectionName) → count_of result section ≡ most_of section }
+    {
+        Counts {
+            timers: SectionName::Timers.most(),
+            comparisons: SectionName::Comparisons.most(),
+            stages: SectionName::Stages.most(),
+            changes: SectionName::Changes.most(),
+            outcomes: SectionName::Outcomes.most(),
+            goals: SectionName::Goal.most(),
+        }
+    }
+
     pub fn of(&self, section: SectionName) -> usize
         ensures { result ≡ count_of self.now section }
     {
@@ -56,12 +71,12 @@ impl SectionName {
         ensures { result ≡ size_of self }
     {
         match self {
-            SectionName::Timers => 2,
-            SectionName::Comparisons => 6,
-            SectionName::Stages => 10,
-            SectionName::Changes => 8,
-            SectionName::Outcomes => 6,
-            SectionName::Goal => 4,
+            SectionName::Timers => TimerRow::SIZE,
+            SectionName::Comparisons => ComparisonRow::SIZE,
+            SectionName::Stages => StageRow::SIZE,
+            SectionName::Changes => ChangeRow::SIZE,
+            SectionName::Outcomes => OutcomeRow::SIZE,
+            SectionName::Goal => GoalRow::SIZE,
         }
     }
 

@@ -9,7 +9,7 @@ use Rattle.runs.proofs.Offered.{offers_in_order}
 use Rattle.runs.proofs.Taking.{open_is}
 
 -- offers that are not none have one
-pub some_listed : (os rows : List Offer) → os ≡ rows → false ≡ (length rows == 0) → 1 ≤ length os
+some_listed : (os rows : List Offer) → os ≡ rows → false ≡ (length rows == 0) → 1 ≤ length os
 some_listed os rows e n = grind arith
 
 -- a list without offers is the empty one
@@ -18,12 +18,13 @@ none_listed [] e = refl
 none_listed (o ∷ os) e = grind arith
 
 -- the place that a scheduler chooses is in the list
-pub place_in_list : (plan : Plan) (run : Run) (f : Scheduler) (os : List Offer) (answer : ℕ × ℕ) → InRange f → os ≡ offers_of plan run → 1 ≤ length os → answer ≡ f run.stage run.region os → answer.0 < length os
-place_in_list plan run f os answer h e l a =
-    omega (arith, ap (λ (z : ℕ × ℕ). z.0) a, (h run.stage run.region os l (subst (AllByRecursion (λ (o : Offer). o.lowest ≤ o.highest)) (sym e) (offers_in_order plan run.stage run.region))).0)
+pub place_in_list : (plan : Plan) (run : Run) (f : Scheduler) (os : List Offer) {rows : List Offer} (answer : ℕ × ℕ) → InRange f → os ≡ rows → rows ≡ offers_of plan run → false ≡ (length rows == 0) → answer ≡ f run.stage run.region os → answer.0 < length os
+place_in_list plan run f os {rows} answer h e r n a =
+    omega (arith, ap (λ (z : ℕ × ℕ). z.0) a, (h run.stage run.region os (some_listed os rows e n) (subst (AllByRecursion (λ (o : Offer). o.lowest ≤ o.highest)) (sym (e ∙ r)) (offers_in_order plan run.stage run.region))).0)
 
 -- a step does what a take of the chosen pair does
-pub takes_the_choice : (plan : Plan) (run : Run) (f : Scheduler) (os : List Offer) (answer : ℕ × ℕ) (outturn : Outturn) → is_open run.standing ≡ true → os ≡ offers_of plan run → 1 ≤ length os → answer ≡ f run.stage run.region os → take_call plan run (get_or os answer.0 blank_offer).change answer.1 ≡ outturn → step_call plan f run ≡ outturn
-takes_the_choice plan run f os answer outturn o e l a t =
+pub takes_the_choice : (plan : Plan) (run : Run) (f : Scheduler) (os : List Offer) {rows : List Offer} (answer : ℕ × ℕ) (outturn : Outturn) → is_open run.standing ≡ true → os ≡ rows → rows ≡ offers_of plan run → false ≡ (length rows == 0) → answer ≡ f run.stage run.region os → take_call plan run (get_or os answer.0 blank_offer).change answer.1 ≡ outturn → step_call plan f run ≡ outturn
+takes_the_choice plan run f os {rows} answer outturn o e₀ r n a t =
+    let e : os ≡ offers_of plan run = e₀ ∙ r in
     let chosen : answer ≡ f run.stage run.region (offers_of plan run) = a ∙ ap (f run.stage run.region) e in
-    step_takes plan f run (record { going_on = open_is run.standing o; some_offer = omega (arith, ap length e) }) ∙ (sym (λ i. take_call plan run (get_or (e i) (chosen i).0 blank_offer).change (chosen i).1) ∙ t)
+    step_takes plan f run (record { going_on = open_is run.standing o; some_offer = omega (arith, ap length e, some_listed os rows e₀ n) }) ∙ (sym (λ i. take_call plan run (get_or (e i) (chosen i).0 blank_offer).change (chosen i).1) ∙ t)

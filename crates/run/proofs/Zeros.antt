@@ -12,8 +12,8 @@ use Rattle.runs.specs.Runs.{all_zero}
 use Rattle.runs.specs.Tables.{plan_in}
 
 -- a region opened for as many timers as a checked plan has is that of the plan's timers at zero
-pub opened_at_zero : (p held : PlanRows) (r : Record) → held ≡ p → faultless p ≡ true → r ≡ record { whole = true; classes = 1; timers = replicate (timers_for (length held.timers)) fresh } → r ≡ all_zero (length (plan_in p).ceilings)
-opened_at_zero p held r e s t =
+pub opened_at_zero : {p held : PlanRows} {r : Record} → held ≡ p → faultless p ≡ true → r ≡ record { whole = true; classes = 1; timers = replicate (timers_for (length held.timers)) fresh } → r ≡ all_zero (length (plan_in p).ceilings)
+opened_at_zero {p} {held} e s t =
     let sound = sound_from_faultless p s in
     let n : timers_for (length held.timers) ≡ length (plan_in p).ceilings = omega (arith, ap (λ q. length q.timers) e, length-map p.timers (λ (x : TimerRow). x.ceiling), sound.enough Timers, sound.bounded Timers) in
     t ∙ ap all_zero n

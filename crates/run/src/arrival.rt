@@ -8,6 +8,7 @@ use offers::sound_plan::Plan;
 use runs::{Standing, State};
 
 // At its goal if the goal is on, else failed in a stage to avoid, else open.
+// No method of `Plan`, which is another crate's type; only a run asks.
 pub(crate) fn judged(plan: &Plan<'_>, at: &State) -> Standing
     ensures { result ≡ judged (plan_of plan.now) at.now.stage (viewed at.now.region) }
 {

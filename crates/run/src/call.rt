@@ -4,7 +4,7 @@ use rows::refusal::Refusal;
 use runs::{Answer, Standing, State};
 
 // A call of a run. Each step has its own scheduler.
-#[derive(Clone, Copy)]
+#[derive(Clone, Copy, Debug, PartialEq, Eq)]
 pub enum Call<S> {
     Step(S),
     Take { change: u16, wait: u32 },
@@ -13,7 +13,7 @@ pub enum Call<S> {
 }
 
 // What a call replies.
-#[derive(Clone, Copy)]
+#[derive(Clone, Copy, Debug, PartialEq, Eq)]
 pub enum Reply {
     Answered(Result<Answer, Refusal>),
     Offered(OfferList),
@@ -21,7 +21,7 @@ pub enum Reply {
 }
 
 // A call's reply, and where the run is and how it stands after it.
-#[derive(Clone, Copy)]
+#[derive(Clone, Copy, Debug, PartialEq, Eq)]
 pub struct Entry {
     pub reply: Reply,
     pub at: State,

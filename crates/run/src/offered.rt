@@ -10,6 +10,7 @@ use offers::list::OfferList;
 
 impl<'p, D: DrawSource> Run<'p, D> {
     // The changes that are possible now, in their order; none unless the run is open.
+    #[tactic(auto, using(runs::proofs::Telling::shown_open, runs::proofs::Telling::shown_not_open))]
     pub fn offers(&self) -> OfferList
         ensures { listed result ≡ shown (plan_for self.now) (view_of D.DrawSource.coming self.now) }
     {

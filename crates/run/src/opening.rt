@@ -12,11 +12,11 @@ use crate::arrival::judged;
 use draws::source::DrawSource;
 use offers::sound_plan::Plan;
 use plan::handed::Handed;
-use region::Region;
 use runs::State;
 
 impl<'p, D: DrawSource> Run<'p, D> {
     // A run of a checked plan: in stage 0, all timers at zero, its arrival judged.
+    #[tactic(auto, using(runs::proofs::Calls::as_it_opens, crate::proofs::Zeros::opened_at_zero))]
     pub fn of_plan(plan: Plan<'p>, source: D) -> Run<'p, D>
         ensures its_plan { result.plan ≡ plan.entry }
         ensures as_it_opens { view_of D.DrawSource.coming result ≡ opening (plan_of plan.entry) (D.DrawSource.coming source) }
@@ -24,10 +24,7 @@ impl<'p, D: DrawSource> Run<'p, D> {
         ensures regions_and_ticks_tell_the_same { RegionsAndTicksTellTheSame (plan_of plan.entry) (D.DrawSource.coming source) }
         ensures every_call_keeps_it_in_bounds { KeepsInBounds (plan_of plan.entry) (D.DrawSource.coming source) }
     {
-        let at = State {
-            stage: 0,
-            region: Region::opening(plan.tables().timers.len()),
-        };
+        let at = State::opening(plan.tables().timers.len());
         let standing = judged(&plan, &at);
         Run {
             plan,

@@ -14,7 +14,6 @@ use crate::call::{Call, Entry, Reply};
 use draws::source::DrawSource;
 use logs::Log;
 use plan::handed::Handed;
-use region::Region;
 use rows::refusal::Refusal;
 use runs::{Standing, State};
 use schedulers::scheduler::Scheduler;
@@ -26,10 +25,7 @@ impl Entry {
     {
         Entry {
             reply: Reply::Stands(Standing::Open),
-            at: State {
-                stage: 0,
-                region: Region::opening(1),
-            },
+            at: State::opening(1),
             standing: Standing::Open,
         }
     }

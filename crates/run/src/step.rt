@@ -27,6 +27,7 @@ impl<'p, D: DrawSource> Run<'p, D> {
     }
 
     // Does what a take does with the pair that the scheduler chooses, or runs out where there is no offer.
+    #[tactic(auto, using(runs::proofs::Choosing::step_not_open, runs::proofs::Choosing::step_runs_out, crate::proofs::Chosen::none_listed))]
     pub fn step<S: Scheduler>(&mut self, scheduler: &S) -> Result<Answer, Refusal>
         ensures answer { step_call (plan_for self.old) (S.Scheduler.meaning scheduler.now) (view_of D.DrawSource.coming self.old) ≡ (result, view_of D.DrawSource.coming self.new) }
         ensures plan_kept { self.new.plan ≡ self.old.plan }

@@ -11,7 +11,7 @@ ghost use Rattle.theory.specs.Records.{wait as wait_of};
 
 use crate::Run;
 use crate::arrival::judged;
-use crate::lookup::{change_of, outcomes_of};
+use crate::lookup::change_of;
 use draws::source::DrawSource;
 use draws::ticket::pick;
 use region::Region;
@@ -21,15 +21,14 @@ use runs::{Answer, Standing, State};
 
 impl<'p, D: DrawSource> Run<'p, D> {
     // The row of a change that may be taken after a wait, or why it may not.
+    #[tactic(auto, using(runs::proofs::Taking::take_not_open, runs::proofs::Taking::take_not_of_stage, runs::proofs::Taking::take_outside, runs::proofs::Taking::take_forbidden, runs::proofs::Calls::guard_read))]
     fn allowed(&self, change: u16, wait: u32) -> Result<ChangeRow, Refusal>
         ensures { MatchResult result (Allowed (rows_of self.now.plan) (view_of D.DrawSource.coming self.now) change wait) (λ e. take_call (plan_for self.now) (view_of D.DrawSource.coming self.now) change wait ≡ refused e (view_of D.DrawSource.coming self.now)) }
     {
         if !self.standing.is_open() {
             return Err(Refusal::RunNotOpen);
         }
-        let Some(row) = change_of(&self.plan, self.at.stage, change) else {
-            return Err(Refusal::ChangeNotOfStage);
-        };
+        let row = change_of(&self.plan, self.at.stage, change).ok_or(Refusal::ChangeNotOfStage)?;
         let last = self.plan.top(&self.at);
         if wait > last {
             return Err(Refusal::WaitOutsideHold);
@@ -42,6 +41,7 @@ impl<'p, D: DrawSource> Run<'p, D> {
 
     // The region after a wait of the hold interval, by which no timer passes its ceiling.
     // That the wait is in the hold interval is a fact about the run and the wait together, so each step of a take asks for it, and no type of either keeps it.
+    #[tactic(auto, using(runs::proofs::Calls::wait_bounds))]
     fn waited(&self, wait: u32) -> Region
         requires { wait ≤ top (plan_for self.now) self.now.at.stage (viewed self.now.at.region) }
         ensures later { viewed result ≡ wait_of wait (viewed self.now.at.region) }
@@ -100,7 +100,7 @@ impl<'p, D: DrawSource> Run<'p, D> {
         ensures refused_unchanged { is_err result ≡ true → self.new ≡ self.old }
     {
         let draw = self.source.draw()?;
-        let outcomes = outcomes_of(&self.plan, row);
+        let outcomes = self.plan.tables().outcomes_of(row);
         let place = pick(outcomes, draw).unwrap();
         self.arrive(wait, outcomes[place]);
         Ok(Answer::Taken {
@@ -111,6 +111,7 @@ impl<'p, D: DrawSource> Run<'p, D> {
     }
 
     // Makes a change after a wait. If the goal is on at some step from 0 to the wait, the whole wait is made, without a change or a draw; else one draw picks the outcome.
+    #[tactic(auto, using(runs::proofs::Taking::making_draws, runs::proofs::Taking::making_met))]
     pub fn take(&mut self, change: u16, wait: u32) -> Result<Answer, Refusal>
         ensures answer { take_call (plan_for self.old) (view_of D.DrawSource.coming self.old) change wait ≡ (result, view_of D.DrawSource.coming self.new) }
         ensures plan_kept { self.new.plan ≡ self.old.plan }

@@ -2,7 +2,7 @@
 use Rattle.std.proofs.Common.{◌≡◌, ℕ, ◌+◌, ◌*◌, ◌<◌, ◌≤◌, Bool, true, false, cond, ltb, leb, ◌⊎◌, ◌↔◌, List, [], ◌∷◌, length, get_or, drop, sym, refl, ◌∙◌, subst, inl, inr, arith}
 use Rattle.std.specs.List.{AllByRecursion}
 use Rattle.std.proofs.lemmas.List.{at_drop_more, at_drop_all}
-use Rattle.std.proofs.lemmas.Bool.{cases_Bool, and_parts, and_from, leb-true, ltb-true, le-leb, lt-ltb, ltb-false}
+use Rattle.std.proofs.lemmas.Bool.{cases_Bool, and_parts, and_from, leb-true, ltb-true, le-leb, lt-ltb}
 use Rattle.theory.specs.Settings.{reach}
 use Rattle.theory.specs.Records.{Record, record_of, count, timer_no}
 use Rattle.theory.specs.Regions.{Relation, AtLeast, Above, AtMost, Below, Says, Comparison, timer_against, lead_against, NamesBelow}
@@ -28,9 +28,6 @@ any_within x e = (omega arith, ltb-true x.from x.until e)
 
 pub within_any : (d : ℕ) (x : Span) → Within d x → any_in x ≡ true
 within_any d x h = lt-ltb x.from x.until (omega arith)
-
-pub none_within : (d : ℕ) (x : Span) → any_in x ≡ false → Within d x → ⊥
-none_within d x e h = omega (arith, ltb-false x.from x.until e)
 
 -- what `cut` and `cuts` open to
 pub cut_timer : (r : Record) (i : ℕ) (~ : Relation) (m : ℕ) (x : Span) → cut r (timer_against i ~ m) x ≡ bounded ~ (count r (timer_no r i)) (2 * r.classes * m) x

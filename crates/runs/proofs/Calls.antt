@@ -1,5 +1,5 @@
 -- What the calls of a run come to, by what the code has found.
-use Rattle.std.proofs.Common.{◌≡◌, ℕ, ◌^◌, ◌<◌, ◌≤◌, true, false, cond, [], map, length, Ok, Err, Result, sym, refl, ap, ◌∙◌, subst}
+use Rattle.std.proofs.Common.{◌≡◌, ℕ, ◌^◌, ◌<◌, ◌≤◌, Bool, true, false, map, length, Ok, Err, Result, sym, refl, ap, ap₂, ◌∙◌, subst}
 use mathlib.Core.Bool.{Bool-set}
 use mathlib.Core.Logic.{∥∥₁_elim, ∥∥₁_prop}
 use native.Mathlib.Nat.{ℕ_set}
@@ -14,34 +14,24 @@ use Rattle.region.specs.Waiting.{passes, waited}
 use Rattle.region.proofs.Marked.{length_marks}
 use Rattle.theory.specs.Records.{Record, wait, reset}
 use Rattle.runs.specs.Plans.{Plan, Change, change_of}
-use Rattle.runs.specs.Runs.{Draws, InBounds, Run, Span, all_zero, guard_span, inside, is_of_stage, is_open, judged, offers_of, opening, shown, top, waits_for}
+use Rattle.runs.specs.Runs.{Draws, InBounds, Run, Span, all_zero, guard_span, inside, is_of_stage, is_open, judged, opening, top, waits_for}
 use Rattle.runs.specs.Tables.{plan_in}
 use Rattle.runs.specs.declared.Standing.{Standing}
 use Rattle.runs.proofs.Allowed.{inside_within}
 use Rattle.runs.proofs.Bounds.{reset_in_bounds, wait_in_bounds}
+use Rattle.runs.proofs.Opening.{same_run}
 use Rattle.runs.proofs.Making.{reset_names_no_missing, wait_not_past}
 use Rattle.runs.proofs.Taking.{Fits, of_stage_is, open_is}
 
--- what `shown` opens to
-shown_is : (plan : Plan) (run : Run) → shown plan run ≡ cond (is_open run.standing) (offers_of plan run) []
-unfolding shown
-shown_is plan run = refl
-
-pub shown_open : (plan : Plan) (run : Run) → is_open run.standing ≡ true → shown plan run ≡ offers_of plan run
-shown_open plan run e = shown_is plan run ∙ ap (λ b. cond b (offers_of plan run) []) e
-
-pub shown_not_open : (plan : Plan) (run : Run) → is_open run.standing ≡ false → shown plan run ≡ []
-shown_not_open plan run e = shown_is plan run ∙ ap (λ b. cond b (offers_of plan run) []) e
-
 -- a run in stage 0, its timers at zero and its arrival judged, is as it opens
-pub as_it_opens : (plan : Plan) (draws : Draws) (r : Record) (s : Standing) → r ≡ all_zero (length plan.ceilings) → s ≡ judged plan 0 r → record { stage = 0; region = r; standing = s; coming = draws } ≡ opening plan draws
-as_it_opens plan draws r s e f i =
-    record { stage = 0; region = e i; standing = (f ∙ ap (judged plan 0) e) i; coming = draws }
+pub as_it_opens : (plan : Plan) (draws : Draws) (i : ℕ) (r : Record) (s : Standing) → i ≡ 0 → r ≡ all_zero (length plan.ceilings) → s ≡ judged plan i r → record { stage = i; region = r; standing = s; coming = draws } ≡ opening plan draws
+as_it_opens plan draws i r s z e f =
+    same_run (record { stage = i; region = r; standing = s; coming = draws }) (opening plan draws) z e (f ∙ ap₂ (judged plan) z e) refl
 
--- the waits that the guard of a change allows, as the code finds them
-pub span_for : (plan : Plan) (run : Run) (c last : ℕ) (change : Change) (x : Span) → last ≡ top plan run.stage run.region → change ≡ change_of plan run.stage c → x ≡ guard_span run.region last change.guard → x ≡ waits_for plan run c
-span_for plan run c last change x e f s =
-    s ∙ (ap (λ n. guard_span run.region n change.guard) e ∙ ap (λ (k : Change). guard_span run.region (top plan run.stage run.region) k.guard) f)
+-- whether the guard of a change allows a wait, as the code finds it
+pub guard_read : (plan : Plan) (run : Run) (c d : ℕ) {last : ℕ} {change : Change} {x : Span} {b : Bool} → last ≡ top plan run.stage run.region → change ≡ change_of plan run.stage c → x ≡ guard_span run.region last change.guard → b ≡ inside d x → inside d (waits_for plan run c) ≡ b
+guard_read plan run c d {last} {change} e f s t =
+    sym (t ∙ ap (inside d) (s ∙ (ap (λ n. guard_span run.region n change.guard) e ∙ ap (λ (k : Change). guard_span run.region (top plan run.stage run.region) k.guard) f)))
 
 -- a take that passes every test fits
 pub fitting : (plan : Plan) (run : Run) (c d : ℕ) → is_open run.standing ≡ true → is_of_stage plan run.stage c ≡ true → d ≤ top plan run.stage run.region → inside d (waits_for plan run c) ≡ true → Fits plan run c d
@@ -65,10 +55,10 @@ as_many_rows p r h =
     ∥∥₁_elim h (ℕ_set (length r.timers) (length p.timers)) (λ b. b.as_many ∙ length-map p.timers (λ (t : TimerRow). t.ceiling))
 
 -- a reset of timers of the plan is made, and keeps the region in bounds
-pub reset_made : (p : PlanRows) (bits : ℕ) (r r' : Record) (answer : Result (Unit {0}) Refusal) → bits < 2 ^ length p.timers → ∥ InBounds (plan_in p) r ∥₁ → reset_by bits r ≡ (answer, r') → r' ≡ reset (marks (length p.timers) bits) r
-reset_made p bits r r' answer l h k =
+pub reset_made : (p : PlanRows) (bits : ℕ) {r r' : Record} {answer : Result (Unit {0}) Refusal} → bits < 2 ^ length p.timers → ∥ InBounds (plan_in p) r ∥₁ → reset_by bits r ≡ (answer, r') → r' ≡ reset (marks (length p.timers) bits) r
+reset_made p bits {r} l h k =
     ap (λ z. z.1) (sym k ∙ reset_names_no_missing p bits r l (as_many_rows p r h))
 
-pub reset_bounds : (p : PlanRows) (bits : ℕ) (r r' : Record) → ∥ InBounds (plan_in p) r ∥₁ → r' ≡ reset (marks (length p.timers) bits) r → ∥ InBounds (plan_in p) r' ∥₁
-reset_bounds p bits r r' h e =
-    ∥∥₁_elim h ∥∥₁_prop (λ b. ∣ subst (InBounds (plan_in p)) (sym e) (reset_in_bounds (plan_in p) (marks (length p.timers) bits) r (length_marks (length p.timers) bits ∙ sym (as_many_rows p r h)) b) ∣₁)
+pub reset_bounds : (p : PlanRows) (bits : ℕ) {r r' : Record} {answer : Result (Unit {0}) Refusal} → bits < 2 ^ length p.timers → ∥ InBounds (plan_in p) r ∥₁ → reset_by bits r ≡ (answer, r') → ∥ InBounds (plan_in p) r' ∥₁
+reset_bounds p bits {r} l h k =
+    ∥∥₁_elim h ∥∥₁_prop (λ b. ∣ subst (InBounds (plan_in p)) (sym (reset_made p bits l h k)) (reset_in_bounds (plan_in p) (marks (length p.timers) bits) r (length_marks (length p.timers) bits ∙ sym (as_many_rows p r h)) b) ∣₁)

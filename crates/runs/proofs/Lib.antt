@@ -18,4 +18,3 @@ pub mod Examples
 pub mod Worked
 pub mod Tables
 pub mod Calls
-pub mod Own

@@ -1,7 +1,7 @@
 -- How a granted take is carried out: the goal or the draw, then the wait and the resets.
-use Rattle.std.proofs.Common.{◌≡◌, ℕ, ◌*◌, ◌^◌, ◌<◌, ◌≤◌, true, false, List, map, length, get_or, Ok, Err, ap, ◌∙◌, arith}
+use Rattle.std.proofs.Common.{◌≡◌, ℕ, ◌*◌, ◌^◌, ◌<◌, ◌≤◌, false, List, map, length, get_or, Ok, Err, ap, ◌∙◌, arith}
 use Rattle.std.proofs.lemmas.List.{get_or-map, length-map}
-use Rattle.std.proofs.lemmas.Bool.{cond-true, cond-false, lt-leb}
+use Rattle.std.proofs.lemmas.Bool.{cond-false, false_from_ne_true, lt-leb}
 use Rattle.rows.specs.declared.refusal.Refusal.TheVariants.{NotThere}
 use Rattle.rows.specs.declared.tables.TimerRow.{TimerRow}
 use Rattle.rows.specs.Plans.{PlanRows}
@@ -10,25 +10,12 @@ use Rattle.region.specs.Waiting.{ceiling_no, passes, PastACeiling}
 use Rattle.region.proofs.Waited.{decides_passes}
 use Rattle.theory.specs.Records.{Record, reset}
 use Rattle.runs.specs.Plans.{Plan}
-use Rattle.runs.specs.Runs.{top, goal_by, Run, drawing, at_goal, making, InBounds}
-use Rattle.runs.specs.declared.Answer.TheVariants.{Met}
+use Rattle.runs.specs.Runs.{top, InBounds}
 use Rattle.runs.proofs.Permits.{top_counts}
-use Rattle.runs.proofs.Taking.{making_is}
-use Rattle.runs.proofs.Telling.{not_true}
-
--- a take meets the goal if that is on by the wait
-pub making_met : (plan : Plan) (run : Run) (c d : ℕ) → goal_by plan run.stage run.region d ≡ true → making plan run c d ≡ (Ok (Met d), at_goal run d)
-making_met plan run c d e =
-    making_is plan run c d ∙ cond-true (goal_by plan run.stage run.region d) (Ok (Met d), at_goal run d) (drawing plan run c d (run.coming 0)) e
-
--- and else it draws
-pub making_draws : (plan : Plan) (run : Run) (c d : ℕ) → goal_by plan run.stage run.region d ≡ false → making plan run c d ≡ drawing plan run c d (run.coming 0)
-making_draws plan run c d e =
-    making_is plan run c d ∙ cond-false (goal_by plan run.stage run.region d) (Ok (Met d), at_goal run d) (drawing plan run c d (run.coming 0)) e
 
 -- no timer passes its ceiling in the hold interval
 pub wait_not_past : (plan : Plan) (timers : List TimerRow) (i d : ℕ) (r : Record) → plan.ceilings ≡ map (λ t. t.ceiling) timers → InBounds plan r → d ≤ top plan i r → passes timers d r ≡ false
-wait_not_past plan timers i d r e h l = not_true (passes timers d r) (λ b. none ((decides_passes timers d r).0 b))
+wait_not_past plan timers i d r e h l = false_from_ne_true (passes timers d r) (λ b. none ((decides_passes timers d r).0 b))
   where
     long : length plan.ceilings ≡ length timers
     long = ap length e ∙ length-map timers (λ (t : TimerRow). t.ceiling)

@@ -104,10 +104,6 @@ pub offers_in_order : (plan : Plan) (i : ℕ) (r : Record) → AllByRecursion (�
 offers_in_order plan i r =
     All-weaker (OfferOfStage plan i r) (λ o. o.lowest ≤ o.highest) (λ o h. (offer_in_order plan i r o h).0) (offers_at plan i r) (offers_of_stage plan i r)
 
-pub offers_within_hold : (plan : Plan) (i : ℕ) (r : Record) → AllByRecursion (λ o. o.highest ≤ top plan i r) (offers_at plan i r)
-offers_within_hold plan i r =
-    All-weaker (OfferOfStage plan i r) (λ o. o.highest ≤ top plan i r) (λ o h. (offer_in_order plan i r o h).1) (offers_at plan i r) (offers_of_stage plan i r)
-
 -- a wait between the ends of an offer is one that the guard allows
 pub offer_within : (plan : Plan) (i : ℕ) (r : Record) (o : Offer) (d : ℕ) → OfferOfStage plan i r o → ((o.lowest ≤ d) × (d ≤ o.highest)) ↔ Within d (guard_span r (top plan i r) (change_of plan i o.change).guard)
 offer_within plan i r o d h =

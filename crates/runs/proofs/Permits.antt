@@ -139,11 +139,6 @@ top_counts plan i r d j h l b =
     e : 0 + j ≡ j
     e = omega arith
 
--- the hold interval is no longer than any timer's ceiling
-pub top_bounded : (plan : Plan) (i : ℕ) (r : Record) (j : ℕ) → j < length plan.ceilings → top plan i r ≤ 2 * r.classes * get_or plan.ceilings j 0
-top_bounded plan i r j h =
-    omega (arith, top_under plan i r, ceiling_wait_is plan r, room_under r (2 * r.classes * get_or plan.ceilings 0 0) 0 plan.ceilings j h)
-
 -- a permitted moment lies in the hold interval
 pub permitted_reach : (plan : Plan) (i D : ℕ) (v : List ℕ) (p q : ℕ) → Sound plan → 1 ≤ D → length v ≡ length plan.ceilings → 1 ≤ q → Permitted plan i D v p q → reach D v p q ≤ top plan i (record_of D v)
 permitted_reach plan i D v p q s d n k (inl e) = omega (arith, ap (λ z. reach D v z q) e, reach_now D v q)

@@ -1,5 +1,5 @@
 -- Sound tables hold a sound plan.
-use Rattle.std.proofs.Common.{◌≡◌, ℕ, ◌+◌, ◌≤◌, ltb, List, [], ◌∷◌, map, length, drop, sum_by, sym, ap, ◌∙◌, arith}
+use Rattle.std.proofs.Common.{◌≡◌, ℕ, ◌+◌, ◌≤◌, true, ltb, List, [], ◌∷◌, map, length, drop, sum_by, sym, ap, ◌∙◌, arith}
 use Rattle.std.specs.List.{AllByRecursion}
 use Rattle.std.proofs.ByRecursion.{All-drop, All-map, All-take, All-weaker}
 use Rattle.std.proofs.lemmas.List.{length-drop, length-map, length-take}
@@ -16,6 +16,8 @@ use Rattle.rows.specs.declared.section.SectionName.TheVariants.{Timers, Stages}
 use Rattle.rows.specs.Plans.{PlanRows}
 use Rattle.rows.specs.Sound.{SoundTimer, SoundComparison, SoundStage, SoundChange, SoundOutcome}
 use Rattle.rows.specs.Sound.{Sound as SoundRows}
+use Rattle.rows.specs.Verdicts.{faultless}
+use Rattle.rows.proofs.Soundness.{sound_from_faultless}
 use Rattle.theory.specs.Regions.{NamesBelow, timer_against, lead_against}
 use Rattle.runs.specs.Plans.{weights, NamedIn, Sound, SoundPlanStage, SoundPlanChange, SoundPlanOutcome}
 use Rattle.runs.specs.Tables.{relation_of, comparison_of_row, listed, comparisons_of, outcome_of_row, change_of_row, stage_of_row, goal_of, plan_in}
@@ -84,3 +86,7 @@ tables_sound p s =
       stages_sound = All-map (SoundPlanStage (plan_in p)) (stage_of_row p) p.stages (All-weaker (SoundStage p) (λ x. SoundPlanStage (plan_in p) (stage_of_row p x)) (λ x h. stage_sound p s x) p.stages s.stages);
       goal_named = goal_named p s p.goals;
     }
+
+-- rows that break no rule hold a plan that can be run
+pub plan_sound : (p : PlanRows) → faultless p ≡ true → Sound (plan_in p)
+plan_sound p h = tables_sound p (sound_from_faultless p h)

@@ -1,10 +1,10 @@
 -- A take is refused, or it fits and is made.
-use Rattle.std.proofs.Common.{◌≡◌, ℕ, ◌+◌, ◌≤◌, true, false, cond, ltb, leb, ◌⊎◌, length, get_or, Some, None, Ok, refl, ap, ◌∙◌, inl, inr, arith}
-use Rattle.std.proofs.lemmas.Bool.{cases_Bool, and_parts, and_from, leb-true, ltb-true, le-leb, lt-ltb}
+use Rattle.std.proofs.Common.{◌≡◌, ℕ, ◌+◌, ◌≤◌, Bool, true, false, cond, ltb, leb, ◌⊎◌, length, get_or, Some, None, Ok, refl, ap, ◌∙◌, inl, inr, arith}
+use Rattle.std.proofs.lemmas.Bool.{cases_Bool, cond-true, cond-false, and_parts, and_from, leb-true, ltb-true, le-leb, lt-ltb}
 use Rattle.rows.specs.declared.refusal.Refusal.{Refusal}
 use Rattle.rows.specs.declared.refusal.Refusal.TheVariants.{RunNotOpen, ChangeNotOfStage, WaitOutsideHold, GuardForbidsWait, NoDrawToCome}
 use Rattle.runs.specs.Plans.{Plan, stage_of, OfStage, change_of, blank_outcome}
-use Rattle.runs.specs.Runs.{inside, top, goal_by, Run, is_open, is_of_stage, refused, picked_by, arrived, drawing, at_goal, making, waits_for, take_call}
+use Rattle.runs.specs.Runs.{inside, top, goal_by, Run, Outturn, is_open, is_of_stage, refused, picked_by, arrived, drawing, at_goal, making, waits_for, take_call}
 use Rattle.runs.specs.declared.Answer.TheVariants.{Taken, Met}
 use Rattle.runs.specs.declared.Standing.{Standing}
 use Rattle.runs.specs.declared.Standing.TheVariants.{Open, Reached, Failed, Stuck}
@@ -28,14 +28,18 @@ pub is_of_stage_so : (plan : Plan) (i c : ℕ) → OfStage plan i c → is_of_st
 is_of_stage_so plan i c h =
     and_from (leb (stage_of plan i).first c) (ltb c ((stage_of plan i).first + length (stage_of plan i).changes)) (le-leb (stage_of plan i).first c h.0) (lt-ltb c ((stage_of plan i).first + length (stage_of plan i).changes) h.1)
 
--- what `making` and `take-call` open to
-pub making_is : (plan : Plan) (run : Run) (c d : ℕ) → making plan run c d ≡ cond (goal_by plan run.stage run.region d) (Ok (Met d), at_goal run d) (drawing plan run c d (run.coming 0))
+-- what `making` opens to: a take meets the goal if that is on by the wait, and else it draws
+making_is : (plan : Plan) (run : Run) (c d : ℕ) → making plan run c d ≡ cond (goal_by plan run.stage run.region d) (Ok (Met d), at_goal run d) (drawing plan run c d (run.coming 0))
 unfolding making
 making_is plan run c d = refl
 
-pub take_call_is : (plan : Plan) (run : Run) (c d : ℕ) → take_call plan run c d ≡ cond (is_open run.standing) (cond (is_of_stage plan run.stage c) (cond (leb d (top plan run.stage run.region)) (cond (inside d (waits_for plan run c)) (making plan run c d) (refused GuardForbidsWait run)) (refused WaitOutsideHold run)) (refused ChangeNotOfStage run)) (refused RunNotOpen run)
-unfolding take_call
-take_call_is plan run c d = refl
+pub making_met : (plan : Plan) (run : Run) (c d : ℕ) → goal_by plan run.stage run.region d ≡ true → making plan run c d ≡ (Ok (Met d), at_goal run d)
+making_met plan run c d e =
+    making_is plan run c d ∙ cond-true (goal_by plan run.stage run.region d) (Ok (Met d), at_goal run d) (drawing plan run c d (run.coming 0)) e
+
+pub making_draws : (plan : Plan) (run : Run) (c d : ℕ) → goal_by plan run.stage run.region d ≡ false → making plan run c d ≡ drawing plan run c d (run.coming 0)
+making_draws plan run c d e =
+    making_is plan run c d ∙ cond-false (goal_by plan run.stage run.region d) (Ok (Met d), at_goal run d) (drawing plan run c d (run.coming 0)) e
 
 -- a take fits: the run is open, the change is of the stage, and its guard allows the wait in the hold interval
 pub record Fits (plan : Plan) (run : Run) (c d : ℕ) : Type 0 where
@@ -44,39 +48,52 @@ pub record Fits (plan : Plan) (run : Run) (c d : ℕ) : Type 0 where
   pub in_hold : d ≤ top plan run.stage run.region
   pub allowed : Within d (waits_for plan run c)
 
+-- what a take comes to by what each of its tests finds, from the last test back to the first
+abbrev by_guard : Plan → Run → ℕ → ℕ → Bool → Outturn
+by_guard plan run c d b = cond b (making plan run c d) (refused GuardForbidsWait run)
+
+abbrev by_hold : Plan → Run → ℕ → ℕ → Bool → Outturn
+by_hold plan run c d b = cond b (by_guard plan run c d (inside d (waits_for plan run c))) (refused WaitOutsideHold run)
+
+abbrev by_stage : Plan → Run → ℕ → ℕ → Bool → Outturn
+by_stage plan run c d b = cond b (by_hold plan run c d (leb d (top plan run.stage run.region))) (refused ChangeNotOfStage run)
+
+abbrev by_standing : Plan → Run → ℕ → ℕ → Bool → Outturn
+by_standing plan run c d b = cond b (by_stage plan run c d (is_of_stage plan run.stage c)) (refused RunNotOpen run)
+
+take_call_is : (plan : Plan) (run : Run) (c d : ℕ) → take_call plan run c d ≡ by_standing plan run c d (is_open run.standing)
+unfolding take_call
+take_call_is plan run c d = refl
+
+tested_standing : (plan : Plan) (run : Run) (c d : ℕ) (b : Bool) → is_open run.standing ≡ b → take_call plan run c d ≡ by_standing plan run c d b
+tested_standing plan run c d b e = take_call_is plan run c d ∙ ap (by_standing plan run c d) e
+
+tested_stage : (plan : Plan) (run : Run) (c d : ℕ) (b : Bool) → is_open run.standing ≡ true → is_of_stage plan run.stage c ≡ b → take_call plan run c d ≡ by_stage plan run c d b
+tested_stage plan run c d b e f = tested_standing plan run c d true e ∙ ap (by_stage plan run c d) f
+
+tested_hold : (plan : Plan) (run : Run) (c d : ℕ) (b : Bool) → is_open run.standing ≡ true → is_of_stage plan run.stage c ≡ true → leb d (top plan run.stage run.region) ≡ b → take_call plan run c d ≡ by_hold plan run c d b
+tested_hold plan run c d b e f g = tested_stage plan run c d true e f ∙ ap (by_hold plan run c d) g
+
+tested_guard : (plan : Plan) (run : Run) (c d : ℕ) (b : Bool) → is_open run.standing ≡ true → is_of_stage plan run.stage c ≡ true → leb d (top plan run.stage run.region) ≡ true → inside d (waits_for plan run c) ≡ b → take_call plan run c d ≡ by_guard plan run c d b
+tested_guard plan run c d b e f g k = tested_hold plan run c d true e f g ∙ ap (by_guard plan run c d) k
+
 -- the refusals, in their order
 pub take_not_open : (plan : Plan) (run : Run) (c d : ℕ) → is_open run.standing ≡ false → take_call plan run c d ≡ refused RunNotOpen run
-take_not_open plan run c d e =
-    take_call_is plan run c d ∙ ap (λ b. cond b (cond (is_of_stage plan run.stage c) (cond (leb d (top plan run.stage run.region)) (cond (inside d (waits_for plan run c)) (making plan run c d) (refused GuardForbidsWait run)) (refused WaitOutsideHold run)) (refused ChangeNotOfStage run)) (refused RunNotOpen run)) e
-
-take_open : (plan : Plan) (run : Run) (c d : ℕ) → is_open run.standing ≡ true → take_call plan run c d ≡ cond (is_of_stage plan run.stage c) (cond (leb d (top plan run.stage run.region)) (cond (inside d (waits_for plan run c)) (making plan run c d) (refused GuardForbidsWait run)) (refused WaitOutsideHold run)) (refused ChangeNotOfStage run)
-take_open plan run c d e =
-    take_call_is plan run c d ∙ ap (λ b. cond b (cond (is_of_stage plan run.stage c) (cond (leb d (top plan run.stage run.region)) (cond (inside d (waits_for plan run c)) (making plan run c d) (refused GuardForbidsWait run)) (refused WaitOutsideHold run)) (refused ChangeNotOfStage run)) (refused RunNotOpen run)) e
+take_not_open plan run c d e = tested_standing plan run c d false e
 
 pub take_not_of_stage : (plan : Plan) (run : Run) (c d : ℕ) → is_open run.standing ≡ true → is_of_stage plan run.stage c ≡ false → take_call plan run c d ≡ refused ChangeNotOfStage run
-take_not_of_stage plan run c d e f =
-    take_open plan run c d e ∙ ap (λ b. cond b (cond (leb d (top plan run.stage run.region)) (cond (inside d (waits_for plan run c)) (making plan run c d) (refused GuardForbidsWait run)) (refused WaitOutsideHold run)) (refused ChangeNotOfStage run)) f
-
-take_named : (plan : Plan) (run : Run) (c d : ℕ) → is_open run.standing ≡ true → is_of_stage plan run.stage c ≡ true → take_call plan run c d ≡ cond (leb d (top plan run.stage run.region)) (cond (inside d (waits_for plan run c)) (making plan run c d) (refused GuardForbidsWait run)) (refused WaitOutsideHold run)
-take_named plan run c d e f =
-    take_open plan run c d e ∙ ap (λ b. cond b (cond (leb d (top plan run.stage run.region)) (cond (inside d (waits_for plan run c)) (making plan run c d) (refused GuardForbidsWait run)) (refused WaitOutsideHold run)) (refused ChangeNotOfStage run)) f
+take_not_of_stage plan run c d e f = tested_stage plan run c d false e f
 
 pub take_outside : (plan : Plan) (run : Run) (c d : ℕ) → is_open run.standing ≡ true → is_of_stage plan run.stage c ≡ true → leb d (top plan run.stage run.region) ≡ false → take_call plan run c d ≡ refused WaitOutsideHold run
-take_outside plan run c d e f g =
-    take_named plan run c d e f ∙ ap (λ b. cond b (cond (inside d (waits_for plan run c)) (making plan run c d) (refused GuardForbidsWait run)) (refused WaitOutsideHold run)) g
-
-take_in_hold : (plan : Plan) (run : Run) (c d : ℕ) → is_open run.standing ≡ true → is_of_stage plan run.stage c ≡ true → leb d (top plan run.stage run.region) ≡ true → take_call plan run c d ≡ cond (inside d (waits_for plan run c)) (making plan run c d) (refused GuardForbidsWait run)
-take_in_hold plan run c d e f g =
-    take_named plan run c d e f ∙ ap (λ b. cond b (cond (inside d (waits_for plan run c)) (making plan run c d) (refused GuardForbidsWait run)) (refused WaitOutsideHold run)) g
+take_outside plan run c d e f g = tested_hold plan run c d false e f g
 
 pub take_forbidden : (plan : Plan) (run : Run) (c d : ℕ) → is_open run.standing ≡ true → is_of_stage plan run.stage c ≡ true → leb d (top plan run.stage run.region) ≡ true → inside d (waits_for plan run c) ≡ false → take_call plan run c d ≡ refused GuardForbidsWait run
-take_forbidden plan run c d e f g k =
-    take_in_hold plan run c d e f g ∙ ap (λ b. cond b (making plan run c d) (refused GuardForbidsWait run)) k
+take_forbidden plan run c d e f g k = tested_guard plan run c d false e f g k
 
 -- a take that fits is made
 pub take_fits : (plan : Plan) (run : Run) (c d : ℕ) → Fits plan run c d → take_call plan run c d ≡ making plan run c d
 take_fits plan run c d h =
-    take_in_hold plan run c d (ap is_open h.going_on) (is_of_stage_so plan run.stage c h.of_stage) (le-leb d (top plan run.stage run.region) h.in_hold) ∙ ap (λ b. cond b (making plan run c d) (refused GuardForbidsWait run)) (within_inside d (waits_for plan run c) h.allowed)
+    tested_guard plan run c d true (ap is_open h.going_on) (is_of_stage_so plan run.stage c h.of_stage) (le-leb d (top plan run.stage run.region) h.in_hold) (within_inside d (waits_for plan run c) h.allowed)
 
 -- a take fits, or it is refused and alters nothing
 pub take_cases : (plan : Plan) (run : Run) (c d : ℕ) → Fits plan run c d ⊎ ((e : Refusal) × (take_call plan run c d ≡ refused e run))
@@ -101,13 +118,11 @@ take_cases plan run c d = go₁ (cases_Bool (is_open run.standing))
 
 -- a take that fits meets the goal if that is on by the wait
 pub take_met : (plan : Plan) (run : Run) (c d : ℕ) → Fits plan run c d → goal_by plan run.stage run.region d ≡ true → take_call plan run c d ≡ (Ok (Met d), at_goal run d)
-take_met plan run c d h e =
-    take_fits plan run c d h ∙ (making_is plan run c d ∙ ap (λ b. cond b (Ok (Met d), at_goal run d) (drawing plan run c d (run.coming 0))) e)
+take_met plan run c d h e = take_fits plan run c d h ∙ making_met plan run c d e
 
 -- and else it draws
 pub take_draws : (plan : Plan) (run : Run) (c d : ℕ) → Fits plan run c d → goal_by plan run.stage run.region d ≡ false → take_call plan run c d ≡ drawing plan run c d (run.coming 0)
-take_draws plan run c d h e =
-    take_fits plan run c d h ∙ (making_is plan run c d ∙ ap (λ b. cond b (Ok (Met d), at_goal run d) (drawing plan run c d (run.coming 0))) e)
+take_draws plan run c d h e = take_fits plan run c d h ∙ making_draws plan run c d e
 
 pub take_no_draw : (plan : Plan) (run : Run) (c d : ℕ) → Fits plan run c d → goal_by plan run.stage run.region d ≡ false → run.coming 0 ≡ None → take_call plan run c d ≡ refused NoDrawToCome run
 take_no_draw plan run c d h e n = take_draws plan run c d h e ∙ ap (drawing plan run c d) n

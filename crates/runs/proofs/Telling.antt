@@ -1,6 +1,7 @@
 -- A tick run's event is told by a call, and a take that fits is an event.
 use Rattle.std.proofs.Common.{◌≡◌, ℕ, suc, ◌+◌, ◌^◌, ◌<◌, ◌≤◌, Bool, true, false, cond, ◌⊎◌, ◌↔◌, List, [], ◌∷◌, ◌++◌, length, get_or, Some, Ok, sym, refl, ap, ◌∙◌, subst, ap₂, inl, inr, arith}
 use Rattle.std.specs.List.{AllByRecursion}
+use Rattle.std.proofs.lemmas.Bool.{false_from_ne_true}
 use Rattle.theory.specs.Settings.{later, steps, reach}
 use Rattle.theory.specs.Records.{Record, record_of, wait, reset}
 use Rattle.theory.specs.Regions.{Comparison}
@@ -25,10 +26,6 @@ use Rattle.runs.proofs.Picking.{picks_picked}
 use Rattle.runs.proofs.Taking.{Fits, take_met, take_taken}
 use Rattle.runs.proofs.Choosing.{step_runs_out}
 use Rattle.runs.proofs.Opening.{same_run, run_of, Sized}
-
-pub not_true : (b : Bool) → (b ≡ true → ⊥) → b ≡ false
-not_true true h = absurd (h refl)
-not_true false h = refl
 
 -- a go that may be made is a take that fits, after the wait of its ticks
 pub go_fits : (plan : Plan) (D : ℕ) (now : Ticking) (t c g : ℕ) (coming : Draws) → Sound plan → 1 ≤ D → Sized plan now → MayGo plan D now t c g → Fits plan (run_of D now coming) c (steps D now.ticks t)
@@ -74,7 +71,7 @@ runs_out_sized plan D now then z h = ap length h.ticks_then ∙ z
 -- the take that tells a go with its outcome
 pub changes_made : (plan : Plan) (D : ℕ) (now : Ticking) (t c g n : ℕ) (then : Ticking) (coming : Draws) → Sound plan → 1 ≤ D → Sized plan now → Changes plan D now t c g n then → coming 0 ≡ Some g → take_call plan (run_of D now coming) c (steps D now.ticks t) ≡ (Ok (Taken c (steps D now.ticks t) ((change_of plan now.stage c).first + n)), run_of D then (rest_of coming))
 changes_made plan D now t c g n then coming s d z h e =
-    take_taken plan run c w g (go_fits plan D now t c g coming s d z h.may_go) (not_true (goal_by plan now.stage run.region w) (λ y. h.never_on ((within_goal_by plan now.stage D now.ticks t s d z).1 y))) e ∙ (ap made pick ∙ ap ended arrives)
+    take_taken plan run c w g (go_fits plan D now t c g coming s d z h.may_go) (false_from_ne_true (goal_by plan now.stage run.region w) (λ y. h.never_on ((within_goal_by plan now.stage D now.ticks t s d z).1 y))) e ∙ (ap made pick ∙ ap ended arrives)
   where
     run : Run
     run = run_of D now coming
@@ -141,7 +138,7 @@ runs_out_made plan D now then coming f s d z h =
     end (inl k) =
         ap (λ b. cond b Reached Stuck) ((permitted_goal_by plan now.stage D now.ticks s d z).0 k.1) ∙ sym k.0
     end (inr k) =
-        ap (λ b. cond b Reached Stuck) (not_true on (λ y. k.1 ((permitted_goal_by plan now.stage D now.ticks s d z).1 y))) ∙ sym k.0
+        ap (λ b. cond b Reached Stuck) (false_from_ne_true on (λ y. k.1 ((permitted_goal_by plan now.stage D now.ticks s d z).1 y))) ∙ sym k.0
 
 -- an open run shows its offers, and any other none
 pub shown_open : (plan : Plan) (run : Run) → is_open run.standing ≡ true → shown plan run ≡ offers_of plan run

@@ -1,25 +1,20 @@
 -- The worked examples come out as stated.
-use Rattle.std.proofs.Common.{◌≡◌, ℕ, true, false, [], ◌∷◌, None, Ok, Err, refl, arith}
+use Rattle.std.proofs.Common.{◌≡◌, true, false, [], ◌∷◌, Ok, Err, refl, arith}
 use Rattle.rows.specs.declared.refusal.Refusal.TheVariants.{RunNotOpen, ChangeNotOfStage, WaitOutsideHold, GuardForbidsWait}
 use Rattle.rows.specs.Refusals.{number_of}
 use Rattle.rows.specs.Verdicts.{faultless, first_in, fault_from, record_fault}
-use Rattle.rows.proofs.Soundness.{sound_from_faultless}
 use Rattle.theory.specs.Settings.{total, marked, unmarked, any_marked}
 use Rattle.theory.specs.Records.{wait, reset, ranked, live}
 use Rattle.runs.specs.Plans.{weights, Sound, blank_plan}
 use Rattle.runs.specs.Runs.{cut, cuts, room, ceiling_wait, hold_span, top, offers_from, goal_by, picked, Draws, Scheduler, making, take_call, step_call, shown, all_zero, opening}
-use Rattle.runs.specs.Telling.{DrawsFit}
 use Rattle.runs.specs.Examples.{example_rows, example_plan, example_met_rows, example_met, drawn, after_three_takes, TheRulesGiveTheWorkedExamples}
 use Rattle.runs.specs.declared.Answer.TheVariants.{Taken, Met, RanOut}
 use Rattle.runs.specs.declared.Standing.TheVariants.{Open, Reached, Stuck}
-use Rattle.runs.proofs.Tables.{tables_sound}
+use Rattle.runs.proofs.Tables.{plan_sound}
 
-pub blank_plan_is_sound : Sound blank_plan
+blank_plan_is_sound : Sound blank_plan
 blank_plan_is_sound =
     record { some_timer = omega arith; timers_run = (omega arith, tt); some_stage = omega arith; stages_sound = (record { hold_named = tt; changes_sound = tt }, tt); goal_named = tt }
-
-pub no_draws_fit : DrawsFit (λ k. None)
-no_draws_fit k g e = absurd (let z : ◌≡◌ {A = ℕ} 0 1 = cc in omega arith)
 
 example_faultless : faultless example_rows ≡ true
 unfolding faultless first_in fault_from record_fault
@@ -69,7 +64,7 @@ pub the_rules_give_the_worked_examples : TheRulesGiveTheWorkedExamples
 the_rules_give_the_worked_examples =
     record {
       rows_break_no_rule = (example_faultless, example_met_faultless);
-      plans_can_be_run = (tables_sound example_rows (sound_from_faultless example_rows example_faultless), tables_sound example_met_rows (sound_from_faultless example_met_rows example_met_faultless), blank_plan_is_sound);
+      plans_can_be_run = (plan_sound example_rows example_faultless, plan_sound example_met_rows example_met_faultless, blank_plan_is_sound);
       a_reset_after_a_step = a_reset;
       the_blank_plan_runs_out = nothing_happens;
       offers_at_opening = first_offers;

@@ -1,9 +1,12 @@
 // What the calls of a run answer with, and what is proved of runs. Each function with no arguments stands for a theorem, which is its contract.
 #![tactic(auto)]
 
-ghost use Rattle.std.specs.Prelude.{◌≡◌};
+ghost use Rattle.std.specs.Prelude.{◌≡◌, true, replicate};
+ghost use Rattle.region.specs.Reads.{timers_for};
+ghost use Rattle.region.specs.Viewed.{viewed};
 ghost use Rattle.runs.specs.Runs.{is_open};
 ghost use Rattle.runs.specs.Telling.{EveryListOfCallsTellsATickRun, EveryTickRunIsTold, AStepChoosesAsItsSchedulerMeans, EveryCallKeepsARunInBounds};
+ghost use Rattle.theory.specs.Records.{fresh, record_of};
 
 use region::Region;
 
@@ -26,10 +29,24 @@ impl Standing {
 }
 
 // Where a run is: its stage, and the region of its timers.
-#[derive(Clone, Copy, Debug)]
+#[derive(Clone, Copy, Debug, PartialEq, Eq)]
 pub struct State {
     pub stage: u16,
     pub region: Region,
+}
+
+impl State {
+    // Where a run of so many timers begins: in stage 0, all timers at zero.
+    pub fn opening(timers: usize) -> State
+        ensures first_stage { result.stage ≡ 0 }
+        ensures at_zero { viewed result.region ≡ record_of 1 (replicate (timers_for timers) 0) }
+        ensures told { viewed result.region ≡ record { whole = true; classes = 1; timers = replicate (timers_for timers) fresh } }
+    {
+        State {
+            stage: 0,
+            region: Region::opening(timers),
+        }
+    }
 }
 
 // A change that may happen, with the first and the last wait after which it may.

@@ -1,7 +1,7 @@
 -- The foremost entry is one that no other is ahead of, and it is ahead of every earlier one.
 use Rattle.std.specs.Prelude.{◌≡◌, ℕ, zero, suc, ◌<◌, ◌≤◌, Bool, true, false, cond, ◌⊎◌, List, [], ◌∷◌, length, slice_index_or, nat_lt, refl}
 use Rattle.std.proofs.Common.{inl, inr, sym, ap, ◌∙◌, subst, arith}
-use Rattle.std.proofs.lemmas.List.MinMax.{IsFirstBest-unique, IsStrictWeakOrder-by_number, IsStrictWeakOrder-flip}
+use Rattle.std.proofs.lemmas.List.MinMax.{IsFirstBest-none, IsFirstBest-unique, IsStrictWeakOrder-by_number, IsStrictWeakOrder-flip}
 use Rattle.std.proofs.ByRecursion.{All-get_or}
 use Rattle.std.proofs.lemmas.List.{get_or_default}
 use Rattle.std.proofs.lemmas.Bool.{cases_Bool}
@@ -23,11 +23,7 @@ foremost_cons ahead x xs = refl
 
 -- nothing is ahead of itself
 not_ahead : {X : Type 0} (ahead : X → X → Bool) → IsStrictWeakOrder ahead → (x : X) → ahead x x ≡ false
-not_ahead ahead o x = go (cases_Bool (ahead x x))
-  where
-    go : (ahead x x ≡ true) ⊎ (ahead x x ≡ false) → ahead x x ≡ false
-    go (inl t) = o.one_way x x t
-    go (inr f) = f
+not_ahead ahead o x = (IsFirstBest-none o (x ∷ [])).1 0 x (omega arith)
 
 foremost_one : {X : Type 0} (ahead : X → X → Bool) → IsStrictWeakOrder ahead → (x : X) → foremost_of ahead (x ∷ []) ≡ 0
 foremost_one ahead o x =
@@ -59,12 +55,7 @@ first_best {X} ahead o x xs b best f = (omega arith, none, λ k d h. absurd (ome
 
 pub foremost_is_best : {X : Type 0} (ahead : X → X → Bool) → IsStrictWeakOrder ahead → (x : X) (xs : List X) → IsFirstBest ahead (x ∷ xs) (suc (length xs)) (foremost_of ahead (x ∷ xs))
 foremost_is_best {X} ahead o x [] =
-    subst (λ (b : ℕ). IsFirstBest ahead (x ∷ []) 1 b) (sym (foremost_one ahead o x))
-    (omega arith, only, λ k d h. absurd (omega arith))
-  where
-    only : (k : ℕ) (d : X) → k < 1 → ahead (slice_index_or (x ∷ []) k d) x ≡ false
-    only zero d h = not_ahead ahead o x
-    only (suc k) d h = absurd (omega arith)
+    subst (λ (b : ℕ). IsFirstBest ahead (x ∷ []) 1 b) (sym (foremost_one ahead o x)) (IsFirstBest-none o (x ∷ []))
 foremost_is_best {X} ahead o x (y ∷ ys) =
     go (foremost_is_best ahead o y ys) (cases_Bool (ahead (slice_index_or (y ∷ ys) (foremost_of ahead (y ∷ ys)) x) x))
   where

@@ -9,7 +9,8 @@ use crate::sampled::Sampled;
 use crate::scheduler::Scheduler;
 use runs::{Offer, State};
 
-// One of the three schedulers, a sampled one with its identifier. A closed list and no dyn: a run has no heap, and its meaning is read from the value.
+// One of the three schedulers, a sampled one with its identifier. A closed list and no dyn: a call takes a copy of it, so it is one value of
+// known size, and its meaning is read from the value.
 #[derive(Clone, Copy, Debug, PartialEq, Eq)]
 pub enum Chooser {
     Earliest,

@@ -1,4 +1,5 @@
-// The earliest and the latest offer.
+// The earliest and the latest offer. They are two types and not one with a switch: each orders by another number of an offer,
+// and answers that number, and callers name the two types.
 ghost use Rattle.std.specs.Prelude.{◌≡◌};
 ghost use Rattle.schedulers.specs.Foremosts.{before_ranks, after_ranks, earliest_in_range, earliest_none, latest_in_range, latest_none};
 ghost use Rattle.schedulers.specs.Meanings.{comes_after, comes_before, earliest, latest};

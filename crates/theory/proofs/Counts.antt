@@ -1,19 +1,17 @@
 -- What a wait does to the counts of a record.
-use Rattle.std.proofs.Common.{◌≡◌, ℕ, zero, suc, ◌+◌, ◌*◌, ◌/◌, ◌%◌, ◌<◌, ◌≤◌, Bool, true, false, cond, eqb, List, [], ◌∷◌, map, length, get_or, sym, refl, ap, ◌∙◌, ap₂, arith}
+use Rattle.std.proofs.Common.{◌≡◌, ℕ, zero, suc, ◌+◌, ◌*◌, ◌/◌, ◌%◌, ◌<◌, ◌≤◌, Bool, true, false, cond, eqb, map, length, get_or, sym, refl, ap, ◌∙◌, ap₂, arith}
 use mathlib.Core.List.{map-map}
 use native.Mathlib.Nat.{div-add-mod}
 use lib.ListN.{length-map}
 use Rattle.std.specs.List.{AllByRecursion}
 use Rattle.std.proofs.lemmas.List.{get_or-map}
+use Rattle.std.proofs.lemmas.List.Elements.{All-from_recursion}
+use Rattle.std.proofs.lemmas.List.Folds.{map_fixed}
 use Rattle.std.proofs.ByRecursion.{All-weaker}
 use Rattle.std.proofs.lemmas.Bool.Decides.{nat_tests}
 use Rattle.theory.specs.Records.{Timer, Record, edge, count, timer_at, timer_no, fresh, wait, single_steps}
 use Rattle.theory.proofs.Held.{map_every}
 use Rattle.theory.proofs.Waits.{same_record, timer_from_count, wait_whole, wait_classes, wait_timers}
-
-pub map_itself : {A : Type 0} (f : A → A) (xs : List A) → AllByRecursion (λ x. f x ≡ x) xs → map f xs ≡ xs
-map_itself f [] h = refl
-map_itself f (x ∷ xs) h = ap₂ ◌∷◌ h.0 (map_itself f xs h.1)
 
 pub edge_bit : (r : Record) → edge r ≤ 1
 edge_bit r = go r.whole
@@ -52,13 +50,6 @@ timer_after_wait d r i h =
 pub count_after_wait : (d : ℕ) (r : Record) (i : ℕ) → i < length r.timers → count (wait d r) (timer_no (wait d r) i) ≡ count r (timer_no r i) + d
 count_after_wait d r i h = ap (count (wait d r)) (timer_after_wait d r i h) ∙ wait_adds_to_count d r (timer_no r i)
 
--- after a wait the record is whole exactly if the counts are even
-pub whole_after_wait : (d : ℕ) (r : Record) (t : Timer) → (wait d r).whole ≡ eqb ((count r t + d) % 2) 0
-whole_after_wait d r t = wait_whole d r ∙ ap (λ n. eqb n 0) parity
-  where
-    parity : (edge r + d) % 2 ≡ (count r t + d) % 2
-    parity = omega arith
-
 -- different waits lead to different records
 pub wait_injective : (r : Record) (d e : ℕ) → 1 ≤ length r.timers → wait d r ≡ wait e r → d ≡ e
 wait_injective r d e h p =
@@ -92,7 +83,7 @@ timer_of_count r t u h e = timer_from_count r.classes t.seconds t.rank (edge r) 
 -- no wait alters nothing
 pub wait_none : (r : Record) → AllByRecursion (λ t. t.rank < r.classes) r.timers → wait 0 r ≡ r
 wait_none r h =
-    same_record (wait 0 r) r (wait_whole 0 r ∙ go r.whole) (wait_classes 0 r) (wait_timers 0 r ∙ map_itself (λ t. timer_at r.classes (count r t + 0)) r.timers (All-weaker (λ t. t.rank < r.classes) (λ t. timer_at r.classes (count r t + 0) ≡ t) (λ t l. timer_of_count r t (count r t + 0) l (omega arith)) r.timers h))
+    same_record (wait 0 r) r (wait_whole 0 r ∙ go r.whole) (wait_classes 0 r) (wait_timers 0 r ∙ map_fixed (λ t. timer_at r.classes (count r t + 0)) r.timers (All-from_recursion _ r.timers (All-weaker (λ t. t.rank < r.classes) (λ t. timer_at r.classes (count r t + 0) ≡ t) (λ t l. timer_of_count r t (count r t + 0) l (omega arith)) r.timers h)))
   where
     go : (b : Bool) → eqb ((cond b 0 1 + 0) % 2) 0 ≡ b
     go true = refl

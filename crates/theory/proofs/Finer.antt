@@ -1,12 +1,12 @@
 -- Finer ticks tell the same: the record does not turn on the fineness.
 use Rattle.std.proofs.Common.{◌≡◌, ℕ, zero, suc, ◌+◌, ◌*◌, ◌/◌, ◌%◌, ◌<◌, ◌≤◌, eqb, ◌⊎◌, ◌↔◌, List, sym, ap, ◌∙◌, inl, inr, mod-lt, mul-le-mul_left, mul-suc, arith}
 use mathlib.Core.List.{map-map}
-use native.Mathlib.Nat.{div-add-mod, mul-lt-mul_of_pos_left, eq_of_mul-eq-mul_left}
+use native.Mathlib.Nat.{div-add-mod, mul-div-mul_left, mul-lt-mul_of_pos_left, eq_of_mul-eq-mul_left}
 use Rattle.std.proofs.ByRecursion.{All-map}
 use Rattle.std.proofs.lemmas.Bool.{cases_lt}
 use Rattle.theory.specs.Settings.{total, held, finer}
 use Rattle.theory.specs.Records.{record_of, timer_of}
-use Rattle.theory.proofs.Totals.{total_zero, total_suc, total_add, total_shift, total_none, div_from, mod_from}
+use Rattle.theory.proofs.Totals.{total_zero, total_suc, total_add, total_shift, total_none, mod_from}
 use Rattle.theory.proofs.Held.{map_every, all_every, held_map, held_none}
 use Rattle.theory.proofs.Waits.{same_record, same_timer}
 
@@ -16,10 +16,6 @@ finer_split q D c = omega (arith, ap (λ z. q * z) (div-add-mod c D))
 pub mod_finer : (q D c : ℕ) → 1 ≤ q → 1 ≤ D → (q * c) % (q * D) ≡ q * (c % D)
 mod_finer q D c h d =
     mod_from (q * D) (c / D) (q * (c % D)) (q * c) (mul-lt-mul_of_pos_left (mod-lt c d) h) (finer_split q D c)
-
-pub div_finer : (q D c : ℕ) → 1 ≤ q → 1 ≤ D → (q * c) / (q * D) ≡ c / D
-div_finer q D c h d =
-    div_from (q * D) (c / D) (q * (c % D)) (q * c) (mul-lt-mul_of_pos_left (mod-lt c d) h) (finer_split q D c)
 
 pub held_finer : (q D : ℕ) (v : List ℕ) (x : ℕ) → 1 ≤ q → 1 ≤ D → held (q * D) (finer q v) (q * x) ≡ held D v x
 held_finer q D v x h d = held_map (λ c. q * c) (q * D) (q * x) D x both v
@@ -67,7 +63,7 @@ total_finer (suc n) D v (suc y) h d =
 
 pub timer_finer : (q D : ℕ) (v : List ℕ) (c : ℕ) → 1 ≤ q → 1 ≤ D → timer_of (q * D) (finer q v) (q * c) ≡ timer_of D v c
 timer_finer q D v c h d =
-    same_timer (timer_of (q * D) (finer q v) (q * c)) (timer_of D v c) (div_finer q D c h d) (ap (total (held (q * D) (finer q v))) (mod_finer q D c h d) ∙ total_finer q D v (c % D) h d)
+    same_timer (timer_of (q * D) (finer q v) (q * c)) (timer_of D v c) (mul-div-mul_left c D h) (ap (total (held (q * D) (finer q v))) (mod_finer q D c h d) ∙ total_finer q D v (c % D) h d)
 
 -- the record of a setting is that of the same setting in finer ticks
 pub record_of_finer : (D q : ℕ) (v : List ℕ) → 1 ≤ D → 1 ≤ q → record_of (q * D) (finer q v) ≡ record_of D v

@@ -12,8 +12,7 @@ map_same f g [] h = refl
 map_same f g (x ∷ xs) h = ap₂ ◌∷◌ h.0 (map_same f g xs h.1)
 
 pub map_every : {A B : Type 0} (f g : A → B) (xs : List A) → ((x : A) → f x ≡ g x) → map f xs ≡ map g xs
-map_every f g [] h = refl
-map_every f g (x ∷ xs) h = ap₂ ◌∷◌ (h x) (map_every f g xs h)
+map_every f g xs h = λ i. map (λ x. h x i) xs
 
 pub all_unmap : {A B : Type 0} (P : B → Type 0) (f : A → B) (xs : List A) → AllByRecursion P (map f xs) → AllByRecursion (λ x. P (f x)) xs
 all_unmap P f [] h = tt

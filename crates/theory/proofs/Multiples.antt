@@ -3,21 +3,11 @@ use Rattle.std.proofs.Common.{◌≡◌, ℕ, ◌+◌, ◌*◌, ◌/◌, ◌%◌
 use native.Mathlib.Nat.{add-mul-mod_self_left, mul-mod_right, zero-mod, div-add-mod}
 use Rattle.std.specs.List.{AllByRecursion}
 use Rattle.std.proofs.ByRecursion.{All-map, All-weaker}
-use Rattle.theory.specs.Settings.{later, finer, marked, cleared}
-use Rattle.theory.proofs.Held.{all_every}
+use Rattle.theory.specs.Settings.{later, marked, cleared}
 
 -- every timer has a multiple of g ticks
 abbrev pub Multiples : ℕ → List ℕ → Type 0
 Multiples g v = AllByRecursion (λ c. c % g ≡ 0) v
-
-pub finer_are_multiples : (g q : ℕ) (v : List ℕ) → Multiples g (finer (g * q) v)
-finer_are_multiples g q v = All-map (λ c. c % g ≡ 0) (λ c. g * q * c) v (all_every (λ c. (g * q * c) % g ≡ 0) v each)
-  where
-    each : (c : ℕ) → (g * q * c) % g ≡ 0
-    each c = ap (λ z. z % g) e ∙ mul-mod_right g (q * c)
-      where
-        e : g * q * c ≡ g * (q * c)
-        e = omega arith
 
 pub later_keeps_multiples : (g p : ℕ) (v : List ℕ) → Multiples g v → Multiples g (later (g * p) v)
 later_keeps_multiples g p v h =

@@ -6,12 +6,14 @@ use Rattle.std.specs.List.{AllByRecursion}
 use Rattle.std.proofs.lemmas.List.{get_or-map}
 use Rattle.std.proofs.ByRecursion.{All-map, All-weaker, All-from_get_or}
 use Rattle.std.proofs.lemmas.Bool.{cases_lt, cases_Bool}
+use Rattle.std.proofs.lemmas.List.Elements.{All-from_recursion}
+use Rattle.std.proofs.lemmas.List.Folds.{map_fixed}
 use Rattle.theory.specs.Settings.{total, held, later, finer, reach, cleared}
 use Rattle.theory.specs.Records.{Timer, Record, Valid, record_of, record_in, timer_of, timer_no, fresh, edge, count, wait, reset}
 use Rattle.theory.proofs.Totals.{total_zero, total_suc, mod_from, div_from}
 use Rattle.theory.proofs.Held.{held_at, held_by_some, held_bit, held_none}
 use Rattle.theory.proofs.Waits.{same_record, same_timer, rank_below}
-use Rattle.theory.proofs.Counts.{edge_bit, map_itself}
+use Rattle.theory.proofs.Counts.{edge_bit}
 use Rattle.theory.proofs.Moments.{some_class_of, every_wait_in_half_ticks, moments_are_waits}
 use Rattle.theory.proofs.Order.{timer_of_record}
 use Rattle.theory.proofs.Resets.{record_of_cleared, length_marked}
@@ -161,7 +163,7 @@ ticks_whole r ok = go (edge_cases r)
 -- a valid record is the record of its counts
 pub valid_is_of_its_counts : (r : Record) → Valid r → record_of (2 * r.classes) (ticks_of r) ≡ r
 valid_is_of_its_counts r ok =
-    same_record (record_of (2 * r.classes) (ticks_of r)) r (ticks_whole r ok) (ticks_total r ok r.classes (omega arith)) (map-map (timer_of (2 * r.classes) (ticks_of r)) (count r) r.timers ∙ map_itself (λ t. timer_of (2 * r.classes) (ticks_of r) (count r t)) r.timers (All-weaker (λ t. t.rank < r.classes) (λ t. timer_of (2 * r.classes) (ticks_of r) (count r t) ≡ t) each r.timers (ranks_below_all r ok)))
+    same_record (record_of (2 * r.classes) (ticks_of r)) r (ticks_whole r ok) (ticks_total r ok r.classes (omega arith)) (map-map (timer_of (2 * r.classes) (ticks_of r)) (count r) r.timers ∙ map_fixed (λ t. timer_of (2 * r.classes) (ticks_of r) (count r t)) r.timers (All-from_recursion _ r.timers (All-weaker (λ t. t.rank < r.classes) (λ t. timer_of (2 * r.classes) (ticks_of r) (count r t) ≡ t) each r.timers (ranks_below_all r ok))))
   where
     each : (t : Timer) → t.rank < r.classes → timer_of (2 * r.classes) (ticks_of r) (count r t) ≡ t
     each t h =

@@ -1,8 +1,7 @@
 -- Ticks are waits: what one tick and t ticks do to the counts of a setting and to its record.
-use Rattle.std.proofs.Common.{◌≡◌, ℕ, zero, suc, ◌+◌, ◌-◌, ◌*◌, ◌/◌, ◌%◌, ◌<◌, ◌≤◌, cond, eqb, List, [], ◌∷◌, map, sym, refl, ap, ◌∙◌, ap₂, mod-lt, mod-eq_of_lt, arith}
+use Rattle.std.proofs.Common.{◌≡◌, ℕ, zero, suc, ◌+◌, ◌-◌, ◌*◌, ◌/◌, ◌%◌, ◌<◌, ◌≤◌, cond, eqb, List, map, sym, refl, ap, ◌∙◌, ap₂, mod-lt, mod-eq_of_lt, arith}
 use mathlib.Core.List.{map-map}
 use native.Mathlib.Nat.{zero-mod}
-use Rattle.std.specs.List.{AllByRecursion}
 use Rattle.std.proofs.ByRecursion.{All-weaker}
 use Rattle.std.proofs.lemmas.Bool.Decides.{nat_tests}
 use Rattle.theory.specs.Settings.{total, held, later, steps}
@@ -134,11 +133,7 @@ timer_of_place D v c d h =
 
 pub wait_of_timers : (d D : ℕ) (v : List ℕ) → (wait d (record_of D v)).timers ≡ map (λ c. timer_at (total (held D v) D) (place D v c + d)) v
 wait_of_timers d D v =
-    wait_timers d (record_of D v) ∙ (map-map (λ t. timer_at (total (held D v) D) (count (record_of D v) t + d)) (timer_of D v) v ∙ map_same (λ c. timer_at (total (held D v) D) (count (record_of D v) (timer_of D v c) + d)) (λ c. timer_at (total (held D v) D) (place D v c + d)) v (each v))
-  where
-    each : (w : List ℕ) → AllByRecursion (λ c. timer_at (total (held D v) D) (count (record_of D v) (timer_of D v c) + d) ≡ timer_at (total (held D v) D) (place D v c + d)) w
-    each [] = tt
-    each (c ∷ w) = (ap (λ u. timer_at (total (held D v) D) (u + d)) (count_of D v c), each w)
+    wait_timers d (record_of D v) ∙ (map-map (λ t. timer_at (total (held D v) D) (count (record_of D v) t + d)) (timer_of D v) v ∙ (λ i. map (λ c. timer_at (total (held D v) D) (count_of D v c i + d)) v))
 
 -- whether a timer stands at a whole second turns with each step
 pub whole_later : (D : ℕ) (v : List ℕ) (t : ℕ) → 1 ≤ D → (edge (record_of D v) + steps D v t) % 2 ≡ 1 - held D (later t v) 0

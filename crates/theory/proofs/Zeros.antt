@@ -1,8 +1,10 @@
 -- Timers that all stand at zero.
-use Rattle.std.proofs.Common.{◌≡◌, ℕ, zero, suc, ◌%◌, ◌≤◌, true, ◌∷◌, map, replicate, refl, ap, ◌∙◌, arith}
+use Rattle.std.proofs.Common.{◌≡◌, ℕ, zero, suc, ◌%◌, ◌≤◌, true, replicate, ap, ◌∙◌, arith}
 use native.Mathlib.Nat.{zero-mod}
+use lib.LanesLaws.{map-replicate}
 use Rattle.std.specs.List.{AllByRecursion}
 use Rattle.std.proofs.lemmas.Bool.{eq-eqb}
+use Rattle.std.proofs.lemmas.List.Elements.{All-replicate, recursion_from_All}
 use Rattle.theory.specs.Settings.{total, held}
 use Rattle.theory.specs.Records.{timer_of, record_of, fresh}
 use Rattle.theory.proofs.Totals.{total_shift, total_none}
@@ -11,12 +13,7 @@ use Rattle.theory.proofs.Waits.{same_record}
 use Rattle.theory.proofs.Resets.{timer_fresh}
 
 pub all_replicate : {A : Type 0} (P : A → Type 0) (n : ℕ) (a : A) → P a → AllByRecursion P (replicate n a)
-all_replicate P zero a h = tt
-all_replicate P (suc n) a h = (h, all_replicate P n a h)
-
-pub map_replicate : {A B : Type 0} (f : A → B) (n : ℕ) (a : A) → map f (replicate n a) ≡ replicate n (f a)
-map_replicate f zero a = refl
-map_replicate f (suc n) a = ap (λ l. f a ∷ l) (map_replicate f n a)
+all_replicate P n a h = recursion_from_All P (replicate n a) (All-replicate P n a h)
 
 zero_held : (D n : ℕ) → 1 ≤ n → held D (replicate n 0) 0 ≡ 1
 zero_held D zero h = absurd (omega arith)
@@ -36,4 +33,4 @@ pub record_of_zeros : (D n : ℕ) → 1 ≤ D → 1 ≤ n → record_of D (repli
 record_of_zeros D n d h =
     same_record (record_of D (replicate n 0)) (record { whole = true; classes = 1; timers = replicate n fresh })
     (eq-eqb (held D (replicate n 0) 0) 1 (zero_held D n h)) (one_class D n d h)
-    (map_replicate (timer_of D (replicate n 0)) n 0 ∙ ap (replicate n) (timer_fresh D (replicate n 0)))
+    (map-replicate (timer_of D (replicate n 0)) n 0 ∙ ap (replicate n) (timer_fresh D (replicate n 0)))

@@ -1,29 +1,25 @@
-// Lines that are calls, and lines that are not. The calls are matched, since calls have no equality.
+// Lines that are calls, and lines that are not.
 use crate::calls::call;
 use run::call::Call;
 use schedulers::chooser::Chooser;
 
 #[test]
 fn a_call_is_read_from_its_words(rt: HostRuntime) {
-    assert!(rt;
-        matches!(
-            call("take 65535 4294967295"),
-            Some(Call::Take {
-                change: 65535,
-                wait: 4294967295
-            })
-        )
+    assert_eq!(rt;
+        call("take 65535 4294967295"),
+        Some(Call::Take {
+            change: 65535,
+            wait: 4294967295
+        })
     );
-    assert!(rt; matches!(call("step earliest"), Some(Call::Step(Chooser::Earliest))));
-    assert!(rt; matches!(call(" step  latest "), Some(Call::Step(Chooser::Latest))));
-    assert!(rt;
-        matches!(
-            call("step sampled 7"),
-            Some(Call::Step(Chooser::Sampled(7)))
-        )
+    assert_eq!(rt; call("step earliest"), Some(Call::Step(Chooser::Earliest)));
+    assert_eq!(rt; call(" step  latest "), Some(Call::Step(Chooser::Latest)));
+    assert_eq!(rt;
+        call("step sampled 7"),
+        Some(Call::Step(Chooser::Sampled(7)))
     );
-    assert!(rt; matches!(call("offers"), Some(Call::Offers)));
-    assert!(rt; matches!(call("standing"), Some(Call::Standing)));
+    assert_eq!(rt; call("offers"), Some(Call::Offers));
+    assert_eq!(rt; call("standing"), Some(Call::Standing));
 }
 
 #[test]
@@ -48,6 +44,6 @@ fn other_lines_are_no_calls(rt: HostRuntime) {
         "offers 1 2 3",
     ];
     for line in lines {
-        assert!(rt; call(line).is_none());
+        assert_eq!(rt; call(line), None);
     }
 }

@@ -34,7 +34,7 @@ pub const EXAMPLE_COUNTS: Counts = Counts {
 fn altered(edits: &[(usize, u8)]) -> [u8; 105] {
     let mut bytes = EXAMPLE;
     for (at, value) in edits.iter().copied() {
-        if at < 105 {
+        if at < EXAMPLE.len() {
             bytes[at] = value;
         }
     }
@@ -49,7 +49,7 @@ pub fn read_altered(
 ) -> Result<Result<Counts, Fault>, AllocError> {
     let bytes = altered(edits);
     let mut tables = OwnedTables::of(heap, EXAMPLE_COUNTS)?;
-    Ok(tables.read(&bytes[0..len.min(105)]))
+    Ok(tables.read(&bytes[0..len.min(EXAMPLE.len())]))
 }
 
 #[test]

@@ -15,23 +15,11 @@ fn read_count(
     count: u16,
 ) -> Result<Result<Counts, Fault>, AllocError> {
     let mut bytes = EXAMPLE;
-    let [high, low] = count.to_be_bytes();
-    if at < 103 {
-        bytes[at] = high;
-        bytes[at + 1] = low;
-    }
+    let at = at.min(EXAMPLE.len() - 2);
+    bytes[at..at + 2].copy_from_slice(&count.to_be_bytes());
     let mut tables = OwnedTables::of(heap, n)?;
-    Ok(tables.read(&bytes[0..(at.min(102)) + 2]))
+    Ok(tables.read(&bytes[..at + 2]))
 }
-
-const LARGEST: Counts = Counts {
-    timers: 16,
-    comparisons: 4096,
-    stages: 256,
-    changes: 1024,
-    outcomes: 4096,
-    goals: 1,
-};
 
 #[test]
 fn a_count_at_its_limit_goes_on_to_the_records(rt: HostRuntime) -> Result<(), Fail> {
@@ -43,6 +31,7 @@ fn a_count_at_its_limit_goes_on_to_the_records(rt: HostRuntime) -> Result<(), Fa
         (SectionName::Outcomes, 78, 1, 4096),
         (SectionName::Goal, 98, 1, 1),
     ];
+    let largest = Counts::largest();
     for (name, at, least, most) in cases {
         let ends = Err(Fault {
             refusal: Refusal::FileEnds,
@@ -52,10 +41,10 @@ fn a_count_at_its_limit_goes_on_to_the_records(rt: HostRuntime) -> Result<(), Fa
             refusal: Refusal::CountOffLimits,
             at: Where::Section(name),
         });
-        assert_eq!(rt; read_count(rt.alloc(), LARGEST, at, least)?, ends);
-        assert_eq!(rt; read_count(rt.alloc(), LARGEST, at, most)?, ends);
+        assert_eq!(rt; read_count(rt.alloc(), largest, at, least)?, ends);
+        assert_eq!(rt; read_count(rt.alloc(), largest, at, most)?, ends);
         assert_eq!(rt;
-            read_count(rt.alloc(), LARGEST, at, most.saturating_add(1))?,
+            read_count(rt.alloc(), largest, at, most.saturating_add(1))?,
             off
         );
     }

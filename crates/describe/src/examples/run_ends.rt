@@ -1,10 +1,9 @@
 // Runs of the example plan, of one whose goal is met on the way, and of tables that do not pass.
-use crate::examples::files::EXAMPLE_COUNTS;
 use draws::tape::Tape;
 use logs::Log;
 use plan::handed::{Handed, Tables};
+use plan::records::Records;
 use rows::refusal::Refusal;
-use rows::section::Counts;
 use rows::tables::{ChangeRow, ComparisonRow, GoalRow, OutcomeRow, StageRow, TimerRow};
 use run::Run;
 use run::call::{Call, Entry};
@@ -22,6 +21,8 @@ struct Rows {
     outcomes: [OutcomeRow; 3],
     goals: [GoalRow; 1],
 }
+
+// Makers of rows. They are not shared: what is made for tests is not seen by another crate, and other tests fill other columns.
 
 // A timer against a constant.
 fn compare(kind: u8, first: u8, constant: u16) -> ComparisonRow {
@@ -93,14 +94,9 @@ fn handed<'a>(rows: &'a Rows) -> Handed<'a> {
     };
     Handed {
         tables,
-        counts: COUNTS,
+        counts: tables.counts(),
     }
 }
-
-const COUNTS: Counts = Counts {
-    comparisons: 7,
-    ..EXAMPLE_COUNTS
-};
 
 // The answer of a change that was made.
 fn taken(change: u16, wait: u32, outcome: u16) -> Result<Answer, Refusal> {

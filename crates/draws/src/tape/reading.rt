@@ -5,19 +5,16 @@ ghost use Rattle.draws.specs.Recorded.{Fit, kept, numbers_of, recorded};
 ghost use Rattle.draws.specs.Taped.{book_of, coming_of};
 
 use crate::source::DrawSource;
-use crate::tape::Tape;
+use crate::tape::{LONGEST_ROW, Tape};
 use rows::refusal::Refusal;
-use rows::tables::first_rows;
-
-// The most numbers that a row may have.
-const LONGEST_ROW: usize = 10_000;
+use rows::tables::part;
 
 // How many numbers a row has, but for a last one that is short.
 fn full_row(row_length: usize) -> usize
     ensures value { result ≡ kept row_length }
     ensures small { result ≤ 10000 }
 {
-    if row_length <= LONGEST_ROW {
+    if row_length <= LONGEST_ROW as usize {
         row_length
     } else {
         0
@@ -31,8 +28,7 @@ fn row_of(numbers: &[u32], row_length: usize, row: u32) -> &[u32]
 {
     let length = full_row(row_length);
     let first = row as usize * length;
-    let from = &numbers[first.min(numbers.len())..];
-    first_rows(from, length)
+    part(numbers, first, length)
 }
 
 impl<'a> Tape<'a> {

@@ -2,21 +2,15 @@ use Rattle.std.proofs.Common.{◌∙◌, ap, arith}
 use Rattle.runs.specs.Plans.{weights}
 use Rattle.runs.specs.Ticks.{ticket}
 use Rattle.draws.specs.Tickets.{outcomes_in, picked_with}
-use Rattle.draws.proofs.Shares.{every_draw_picks_one_outcome, every_outcome_has_its_own_stretch, every_outcome_has_its_share_of_draws}
+use Rattle.draws.proofs.Shares.{every_outcome_has_its_own_stretch, every_outcome_has_its_share_of_draws}
 use Rattle.draws.proofs.Turns.{allowed_sum, picked_whole}
 use Rattle.draws.proofs.ticket.pick.Goals as goal
-
-pub returns-in_err-weights-clause-every_draw_picks_one_outcome : goal.returns-in_err-weights-clause-every_draw_picks_one_outcome
-returns-in_err-weights-clause-every_draw_picks_one_outcome c = every_draw_picks_one_outcome
 
 pub returns-in_err-weights-clause-every_outcome_has_its_own_stretch : goal.returns-in_err-weights-clause-every_outcome_has_its_own_stretch
 returns-in_err-weights-clause-every_outcome_has_its_own_stretch c = every_outcome_has_its_own_stretch
 
 pub returns-in_err-weights-clause-every_outcome_has_its_share_of_draws : goal.returns-in_err-weights-clause-every_outcome_has_its_share_of_draws
 returns-in_err-weights-clause-every_outcome_has_its_share_of_draws c = every_outcome_has_its_share_of_draws
-
-pub returns-clause-every_draw_picks_one_outcome : goal.returns-clause-every_draw_picks_one_outcome
-returns-clause-every_draw_picks_one_outcome c = every_draw_picks_one_outcome
 
 pub returns-clause-every_outcome_has_its_own_stretch : goal.returns-clause-every_outcome_has_its_own_stretch
 returns-clause-every_outcome_has_its_own_stretch c = every_outcome_has_its_own_stretch

@@ -1,15 +1,13 @@
 use Rattle.std.proofs.Common.{Some, None, ◌∙◌}
-use Rattle.std.proofs.lemmas.Result.{err_from_is_err_and}
 use Rattle.rows.specs.Plans.{PlanRows}
 use Rattle.rows.specs.Verdicts.{section_fault}
-use Rattle.rows.proofs.Faults.{section_step, no_section}
+use Rattle.rows.proofs.Faults.{exit_told, section_step, no_section}
 use Rattle.plan.proofs.check.check_rows.Goals as goal
 
 pub returns-in_err-check_section : goal.returns-in_err-check_section
 returns-in_err-check_section g c =
     let p : PlanRows = g.R.Records.held c.args.rows.now in
-    let e = err_from_is_err_and c.from_residual.result c.from_residual.ensures.1 in
-    rw (e.1, e.2)
+    rw (exit_told c.from_residual.result c.from_residual.ensures.1)
     (section_step (section_fault p) c.loop-section.section-index (Some c.in_err-check_section.field-0.0) c.loop-section-test.true c.in_err-check_section.ensures ∙ c.loop-section.invariant)
 
 pub loop-section-preserved : goal.loop-section-preserved

@@ -1,73 +1,51 @@
-use Rattle.std.proofs.Common.{◌≡◌, Some, sym, refl, ap, ◌∙◌}
-use Rattle.std.proofs.lemmas.Result.{err_from_is_err_and}
+use Rattle.std.proofs.Common.{◌≡◌, Some, sym, refl, ap, ◌∙◌, subst}
 use Rattle.rows.specs.declared.section.Counts.{Counts}
 use Rattle.rows.specs.declared.section.SectionName.TheVariants.{Timers, Comparisons, Stages, Changes, Outcomes, Goal}
 use Rattle.rows.specs.Files.{Read, change_at, comparison_at, file_fault, goal_at, outcome_at, stage_at, timer_at}
 use Rattle.rows.specs.Plans.{PlanRows, change_bytes, comparison_bytes, counts_of, goal_bytes, outcome_bytes, stage_bytes, timer_bytes}
+use Rattle.rows.proofs.Faults.{exit_told}
 use Rattle.rows.proofs.Files.{fault_is_no_plan, one_plan_a_file}
 use Rattle.reader.specs.Gathered.{gathered, rows_held}
 use Rattle.reader.specs.Parts.{bytes_in}
-use Rattle.reader.proofs.Reading.{Filled, begins_at, filled_read, split_counted, table_fits}
+use Rattle.reader.specs.Split.{Split}
+use Rattle.reader.proofs.Reading.{Filled, Sections, begins_at, filled_read, split_counted, table_fits}
 use Rattle.reader.proofs.read.read.Goals as goal
-
--- the rooms that the sections are held against are those of the handed tables
-rooms_of : (rooms : Counts) (seen before : PlanRows) → rooms ≡ counts_of seen → seen ≡ before → rooms ≡ counts_of before
-rooms_of rooms seen before counted same = counted ∙ ap counts_of same
+use Rattle.reader.proofs.read.read.Goals.{In_ok-parts}
 
 pub returns-in_err-parts : goal.returns-in_err-parts
 returns-in_err-parts c =
-    let p = err_from_is_err_and c.from_residual.result c.from_residual.ensures.1 in
     let before : PlanRows = gathered c.args.tables in
-    let same = rooms_of c.counts.result _ before c.counts.ensures c.view.ensures in
+    let same = c.counts.ensures ∙ ap counts_of c.view.ensures in
     let fault : file_fault (counts_of before) c.args.bytes.now ≡ Some c.in_err-parts.field-0.0 =
     ap (λ n. file_fault n c.args.bytes.now) (sym same) ∙ c.in_err-parts.ensures in
-    rw (p.1, p.2)
+    rw (exit_told c.from_residual.result c.from_residual.ensures.1)
     (record {
       answer = (fault, refl);
       the_file_of_every_sound_plan_that_fits_is_read_back = fault_is_no_plan (counts_of before) c.args.bytes.now c.in_err-parts.field-0.0 fault;
     })
 
+-- the sections are held against the room of the handed tables
+sections : (c : In_ok-parts) → Sections (counts_of (gathered c.args.tables)) c.args.bytes.now c.in_ok-parts.parts
+sections c =
+    split_counted (counts_of (gathered c.args.tables)) c.args.bytes.now c.in_ok-parts.parts (subst (λ (n : Counts). Split n c.args.bytes.now c.in_ok-parts.parts) (c.counts.ensures ∙ ap counts_of c.view.ensures) c.in_ok-parts.ensures.split)
+
 pub fill-requires : goal.fill-requires
-fill-requires c =
-    let same = rooms_of c.counts.result _ (gathered c.args.tables) c.counts.ensures c.view.ensures in
-    let all = split_counted c.counts.result c.args.bytes.now c.in_ok-parts.parts c.in_ok-parts.ensures.split in
-    let fits = table_fits Timers timer_at _ _ _ _ _ all.timers (ap (λ (n : Counts). n.timers) same) c.bytes.ensures in
-    record { whole = fits.0; room = fits.1 }
+fill-requires c = table_fits Timers timer_at _ _ _ _ (sections (goal.at.fill-requires c).In_ok-parts).timers c.bytes.ensures
 
 pub fill-requires-2 : goal.fill-requires-2
-fill-requires-2 c =
-    let same = rooms_of c.counts.result _ (gathered c.args.tables) c.counts.ensures c.view.ensures in
-    let all = split_counted c.counts.result c.args.bytes.now c.in_ok-parts.parts c.in_ok-parts.ensures.split in
-    let fits = table_fits Comparisons comparison_at _ _ _ _ _ all.comparisons (ap (λ (n : Counts). n.comparisons) same) c.bytes-2.ensures in
-    record { whole = fits.0; room = fits.1 }
+fill-requires-2 c = table_fits Comparisons comparison_at _ _ _ _ (sections (goal.at.fill-requires-2 c).In_ok-parts).comparisons c.bytes-2.ensures
 
 pub fill-requires-3 : goal.fill-requires-3
-fill-requires-3 c =
-    let same = rooms_of c.counts.result _ (gathered c.args.tables) c.counts.ensures c.view.ensures in
-    let all = split_counted c.counts.result c.args.bytes.now c.in_ok-parts.parts c.in_ok-parts.ensures.split in
-    let fits = table_fits Stages stage_at _ _ _ _ _ all.stages (ap (λ (n : Counts). n.stages) same) c.bytes-3.ensures in
-    record { whole = fits.0; room = fits.1 }
+fill-requires-3 c = table_fits Stages stage_at _ _ _ _ (sections (goal.at.fill-requires-3 c).In_ok-parts).stages c.bytes-3.ensures
 
 pub fill-requires-4 : goal.fill-requires-4
-fill-requires-4 c =
-    let same = rooms_of c.counts.result _ (gathered c.args.tables) c.counts.ensures c.view.ensures in
-    let all = split_counted c.counts.result c.args.bytes.now c.in_ok-parts.parts c.in_ok-parts.ensures.split in
-    let fits = table_fits Changes change_at _ _ _ _ _ all.changes (ap (λ (n : Counts). n.changes) same) c.bytes-4.ensures in
-    record { whole = fits.0; room = fits.1 }
+fill-requires-4 c = table_fits Changes change_at _ _ _ _ (sections (goal.at.fill-requires-4 c).In_ok-parts).changes c.bytes-4.ensures
 
 pub fill-requires-5 : goal.fill-requires-5
-fill-requires-5 c =
-    let same = rooms_of c.counts.result _ (gathered c.args.tables) c.counts.ensures c.view.ensures in
-    let all = split_counted c.counts.result c.args.bytes.now c.in_ok-parts.parts c.in_ok-parts.ensures.split in
-    let fits = table_fits Outcomes outcome_at _ _ _ _ _ all.outcomes (ap (λ (n : Counts). n.outcomes) same) c.bytes-5.ensures in
-    record { whole = fits.0; room = fits.1 }
+fill-requires-5 c = table_fits Outcomes outcome_at _ _ _ _ (sections (goal.at.fill-requires-5 c).In_ok-parts).outcomes c.bytes-5.ensures
 
 pub fill-requires-6 : goal.fill-requires-6
-fill-requires-6 c =
-    let same = rooms_of c.counts.result _ (gathered c.args.tables) c.counts.ensures c.view.ensures in
-    let all = split_counted c.counts.result c.args.bytes.now c.in_ok-parts.parts c.in_ok-parts.ensures.split in
-    let fits = table_fits Goal goal_at _ _ _ _ _ all.goals (ap (λ (n : Counts). n.goals) same) c.bytes-6.ensures in
-    record { whole = fits.0; room = fits.1 }
+fill-requires-6 c = table_fits Goal goal_at _ _ _ _ (sections (goal.at.fill-requires-6 c).In_ok-parts).goals c.bytes-6.ensures
 
 pub returns : goal.returns
 returns c =

@@ -6,16 +6,19 @@ use Rattle.region.specs.Views.{blank}
 use Rattle.region.proofs.Marked.{get_d_written, named_more, other_more, others_none}
 use Rattle.region.proofs.Shown.{rank_below}
 use Rattle.region.proofs.Region.held_ranks.Goals as goal
-use Rattle.region.proofs.Region.held_ranks.Goals.{then-not-is_named, else-not-is_named}
+use Rattle.region.proofs.Region.held_ranks.Goals.{In-loop-timer, then-not-names, else-not-names}
+
+-- the rank at hand is one of the classes
+rank_in : (c : In-loop-timer) → (get_or c.values-row-items.result.now c.loop-timer.timer blank).rank < c.args.self.now.classes
+rank_in c =
+    rank_below c.values-row-items.result.now (viewed c.args.self.now) c.loop-timer.timer c.values-row-items.ensures.timers c.loop-timer-test.true c.args.self.now.valid
 
 pub loop-timer-init : goal.loop-timer-init
 loop-timer-init c =
     (refl, λ j h. get_or-replicate {A = ℕ} 16 j 0 0 h ∙ sym (others_none c.args.timers c.values-row-items.result.now j))
 
 pub bounds-held-from : goal.bounds-held-from
-bounds-held-from c =
-    let r = c.args.self.now in
-    omega (arith, rank_below c.values-row-items.result.now (viewed r) c.loop-timer.timer c.values-row-items.ensures.timers c.loop-timer-test.true r.valid)
+bounds-held-from c = omega (arith, rank_in (goal.at.bounds-held-from c).In-loop-timer)
 
 pub loop-timer-preserved : goal.loop-timer-preserved
 loop-timer-preserved c =
@@ -26,19 +29,19 @@ loop-timer-preserved c =
     let held : List ℕ = c.loop-timer.held in
     let k : ℕ = (get_or xs i blank).rank in
     let within : i < length xs = c.loop-timer-test.true in
-    let below : k < length held = omega (arith, c.loop-timer.invariant.0, rank_below xs (viewed r) i c.values-row-items.ensures.timers within r.valid) in
-    elim c.if-not-is_named.branch [
-      | then-not-is_named w ↦ (
+    let below : k < length held = omega (arith, c.loop-timer.invariant.0, rank_in (goal.at.loop-timer-preserved c).In-loop-timer) in
+    elim c.if-not-names.branch [
+      | then-not-names w ↦ (
         ap length w.held-is ∙ length-set held w.from.result 1 ∙ c.loop-timer.invariant.0,
         λ j h. ap (λ (zs : List ℕ). get_or zs j 0) (w.held-is ∙ ap (λ n. set held n 1) w.from.ensures)
             ∙ get_d_written held k 1 j below
             ∙ ap (λ (n : ℕ). cond (eqb k j) 1 n) (c.loop-timer.invariant.1 j h)
-            ∙ sym (other_more bits xs i j within (sym c.is_named.ensures ∙ w.if-not-is_named.true)),
+            ∙ sym (other_more bits xs i j within (sym c.names.ensures ∙ w.if-not-names.true)),
       )
-      | else-not-is_named w ↦ (
+      | else-not-names w ↦ (
         ap length w.held-is ∙ c.loop-timer.invariant.0,
         λ j h. ap (λ (zs : List ℕ). get_or zs j 0) w.held-is
             ∙ c.loop-timer.invariant.1 j h
-            ∙ sym (named_more bits xs i j within (sym c.is_named.ensures ∙ w.if-not-is_named.false)),
+            ∙ sym (named_more bits xs i j within (sym c.names.ensures ∙ w.if-not-names.false)),
       )
     ]

@@ -1,15 +1,13 @@
-use Rattle.std.proofs.Common.{refl}
 use Rattle.offers.specs.Checked.{checked}
 use Rattle.runs.specs.Tables.{plan_in}
 use Rattle.runs.proofs.Agreement.{regions_and_ticks_tell_the_same}
-use Rattle.offers.proofs.Checking.{as_checked_faultless, plan_sound}
+use Rattle.offers.proofs.Checking.{checked_sound}
 use Rattle.run.specs.Calls.{calls_of}
 use Rattle.run.proofs.replay.replay.Goals as goal
 
 pub returns-then-room-calls-clause-regions_and_ticks_tell_the_same : goal.returns-then-room-calls-clause-regions_and_ticks_tell_the_same
 returns-then-room-calls-clause-regions_and_ticks_tell_the_same g c =
-    let rows = checked c.args.handed in
-    regions_and_ticks_tell_the_same (plan_in rows) (g.D.DrawSource.coming c.args.source) (plan_sound rows (as_checked_faultless c.args.handed rows refl)) (g.D.DrawSource.coming_fits c.args.source)
+    regions_and_ticks_tell_the_same (plan_in (checked c.args.handed)) (g.D.DrawSource.coming c.args.source) (checked_sound c.args.handed) (g.D.DrawSource.coming_fits c.args.source)
 
 pub returns-then-room-calls-clause-tells_a_tick_run : goal.returns-then-room-calls-clause-tells_a_tick_run
 returns-then-room-calls-clause-tells_a_tick_run g c =

@@ -4,7 +4,14 @@ use Rattle.batch.specs.Batches.{Book, Progress, first_runs, one_more}
 use Rattle.batch.specs.Progresses.{progress_of}
 use Rattle.batch.specs.Promised.{runs_in}
 use Rattle.batch.proofs.Counts.{all_counted, runs_again}
+use Rattle.batch.proofs.job.Job.runs_of.Given as given
 use Rattle.batch.proofs.job.Job.runs_of.Goals as goal
+use Rattle.batch.proofs.job.Job.runs_of.Goals.{After-of}
+
+-- before the first run
+abbrev start_of : (g : given.Over) → goal.After-of g → Progress
+start_of g c =
+    progress_of g.D.DrawSource.coming (record { row = c.of.result; hand = c.args.hand })
 
 pub loop-row-init : goal.loop-row-init
 unfolding first_runs
@@ -12,8 +19,7 @@ loop-row-init g c = (refl, refl)
 
 pub one_more-progress-requires : goal.one_more-progress-requires
 one_more-progress-requires g c =
-    let coming = g.D.DrawSource.coming in
-    let start = progress_of coming (record { row = c.of.result; hand = c.args.hand }) in
+    let start = start_of g (goal.at.one_more-progress-requires g c).After-of in
     let none : runs_in c.of.result ≡ 0 = ap runs_in c.of.ensures in
     let many : runs_in c.loop-row.progress.row ≡ runs_in c.of.result + c.loop-row.row = ap (λ (p : Progress). runs_in p.row) c.loop-row.invariant.0 ∙ all_counted (plan_of c.args.self.now.plan) (g.D.DrawSource.book c.args.hand.source) c.args.self.now.limits.steps c.loop-row.row start in
     omega (arith, none, many, c.loop-row-test.true, c.args.self.now.few_runs)
@@ -24,7 +30,7 @@ loop-row-preserved g c =
     let book = g.D.DrawSource.book c.args.hand.source in
     let plan = plan_of c.args.self.now.plan in
     let steps = c.args.self.now.limits.steps in
-    let start = progress_of coming (record { row = c.of.result; hand = c.args.hand }) in
+    let start = start_of g (goal.at.loop-row-preserved g c).After-of in
     let here = progress_of coming c.loop-row.progress in
     let then = progress_of coming c.one_more-progress.result in
     let made : then ≡ one_more plan book steps c.loop-row.row here = c.one_more-progress.ensures.counted ∙ ap (λ (b : Book). one_more plan b steps c.loop-row.row here) c.loop-row.invariant.1 in

@@ -18,7 +18,7 @@ pub overflow_add-row : goal.overflow_add-row
 overflow_add-row c =
     let p : PlanRows = rows_of c.args.self.now in
     let row = c.stage_row-row.result in
-    omega (arith, few_changes p c.args.self.now.sound, ap length c.part-changes.ensures, length-take row.changes (drop row.first_change p.changes), length-drop row.first_change p.changes)
+    omega (arith, few_changes p c.args.self.now.sound, ap length c.changes_of-changes.ensures, length-take row.changes (drop row.first_change p.changes), length-drop row.first_change p.changes)
 
 pub loop-i-preserved : goal.loop-i-preserved
 loop-i-preserved c =
@@ -26,7 +26,7 @@ loop-i-preserved c =
     let r : Record = viewed c.args.at.now.region in
     let first = c.stage_row-row.result.first_change in
     let last = c.top-last.result in
-    let rows = c.part-changes.result.now in
+    let rows = c.changes_of-changes.result.now in
     let os = listed c.loop-i.list in
     let span : Span = guard_span r last (change_of_row p (get_or rows c.loop-i.i no_change)).guard in
     let rest = offers_from r last (first + (c.loop-i.i + 1)) (drop (c.loop-i.i + 1) (map (change_of_row p) rows)) in
@@ -52,7 +52,7 @@ returns-clause-offers c =
     let p : PlanRows = rows_of c.args.self.now in
     let r : Record = viewed c.args.at.now.region in
     let row = c.stage_row-row.result in
-    let told = sym (no_more_changes r c.top-last.result row.first_change p c.part-changes.result.now c.loop-i.i (listed c.loop-i.list) c.loop-i-test.false) ∙ c.loop-i.invariant.told in
+    let told = sym (no_more_changes r c.top-last.result row.first_change p c.changes_of-changes.result.now c.loop-i.i (listed c.loop-i.list) c.loop-i-test.false) ∙ c.loop-i.invariant.told in
     let first : row.first_change ≡ (stage_of (plan_of c.args.self.now) c.args.at.now.stage).first = ap (λ z. z.first) c.stage_row-row.ensures.row in
     let changes : map (change_of_row p) (take row.changes (drop row.first_change p.changes)) ≡ (stage_of (plan_of c.args.self.now) c.args.at.now.stage).changes = ap (λ z. z.changes) c.stage_row-row.ensures.row in
     cc
