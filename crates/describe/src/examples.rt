@@ -4,6 +4,7 @@ mod calls;
 mod entries;
 mod files;
 mod limits;
+mod makers;
 mod refusals;
 mod run_ends;
 mod texts;

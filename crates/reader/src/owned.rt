@@ -29,8 +29,7 @@ impl OwnedTables {
 
     // Tables of default rows, as many of each kind as are counted.
     pub fn of(heap: Global, counts: Counts) -> Result<OwnedTables, AllocError>
-        ensures counted { IfOk result (λ t. counts_of (owned_in t) ≡ counts) }
-        ensures rows { IfOk result (λ t. owned_in t ≡ zero_rows counts) }
+        ensures { IfOk result (λ t. owned_in t ≡ zero_rows counts) }
     {
         Ok(OwnedTables {
             timers: vec![in heap; TimerRow::default(); counts.timers]?,

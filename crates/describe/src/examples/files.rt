@@ -1,10 +1,11 @@
 // The example plan's file, and reading an altered copy of it.
+use crate::examples::makers::{change, compare, outcome, stage};
 use plan::handed::Handed;
 use plan::tables::check_tables;
 use reader::owned::OwnedTables;
 use rows::fault::Fault;
 use rows::section::Counts;
-use rows::tables::{ChangeRow, ComparisonRow, GoalRow, OutcomeRow, StageRow, TimerRow};
+use rows::tables::{GoalRow, TimerRow};
 use std::alloc::{AllocError, Global};
 use std::test::Fail;
 
@@ -74,78 +75,18 @@ fn the_example_is_read_back(rt: HostRuntime) -> Result<(), Fail> {
         ]
         .as_slice()
     );
-    assert_eq!(rt;
-        tables.comparisons.get(3),
-        Some(&ComparisonRow {
-            kind: 1,
-            first: 0,
-            second: 0,
-            filler: 0,
-            constant: 1,
-        })
-    );
-    assert_eq!(rt;
-        tables.comparisons.get(4),
-        Some(&ComparisonRow {
-            kind: 2,
-            first: 1,
-            second: 0,
-            filler: 0,
-            constant: 4,
-        })
-    );
-    assert_eq!(rt;
-        tables.stages.get(0),
-        Some(&StageRow {
-            mark: 0,
-            first_hold: 0,
-            holds: 1,
-            first_change: 0,
-            changes: 1,
-        })
-    );
-    assert_eq!(rt;
-        tables.stages.get(1),
-        Some(&StageRow {
-            mark: 1,
-            first_hold: 2,
-            holds: 1,
-            first_change: 1,
-            changes: 1,
-        })
-    );
-    assert_eq!(rt;
-        tables.changes.get(0),
-        Some(&ChangeRow {
-            first_guard: 1,
-            guards: 1,
-            first_outcome: 0,
-            outcomes: 2,
-        })
-    );
-    assert_eq!(rt;
-        tables.outcomes.get(0),
-        Some(&OutcomeRow {
-            weight: 3,
-            stage: 0,
-            resets: 1,
-        })
-    );
-    assert_eq!(rt;
-        tables.outcomes.get(1),
-        Some(&OutcomeRow {
-            weight: 1,
-            stage: 1,
-            resets: 1,
-        })
-    );
-    assert_eq!(rt;
-        tables.goals.get(0),
-        Some(&GoalRow {
-            first: 4,
-            comparisons: 1,
-        })
-    );
+    assert_eq!(rt; tables.comparisons.get(3), Some(&compare(1, 0, 1)));
+    assert_eq!(rt; tables.comparisons.get(4), Some(&compare(2, 1, 4)));
+    assert_eq!(rt; tables.stages.get(0), Some(&stage(0, 0, 0)));
+    assert_eq!(rt; tables.stages.get(1), Some(&stage(1, 2, 1)));
+    assert_eq!(rt; tables.changes.get(0), Some(&change(1, 0, 2)));
+    assert_eq!(rt; tables.outcomes.get(0), Some(&outcome(3, 0)));
+    assert_eq!(rt; tables.outcomes.get(1), Some(&outcome(1, 1)));
+    let goal = GoalRow {
+        first: 4,
+        comparisons: 1,
+    };
+    assert_eq!(rt; tables.goals.get(0), Some(&goal));
     let handed = Handed {
         tables: tables.view(),
         counts: n,

@@ -1,4 +1,5 @@
 // Runs of the example plan, of one whose goal is met on the way, and of tables that do not pass.
+use crate::examples::makers::{change, compare, outcome, stage};
 use draws::tape::Tape;
 use logs::Log;
 use plan::handed::{Handed, Tables};
@@ -20,48 +21,6 @@ struct Rows {
     changes: [ChangeRow; 2],
     outcomes: [OutcomeRow; 3],
     goals: [GoalRow; 1],
-}
-
-// Makers of rows. They are not shared: what is made for tests is not seen by another crate, and other tests fill other columns.
-
-// A timer against a constant.
-fn compare(kind: u8, first: u8, constant: u16) -> ComparisonRow {
-    ComparisonRow {
-        kind,
-        first,
-        constant,
-        ..ComparisonRow::default()
-    }
-}
-
-// A stage with one comparison to hold by and one change.
-fn stage(mark: u16, first_hold: u16, first_change: u16) -> StageRow {
-    StageRow {
-        mark,
-        first_hold,
-        holds: 1,
-        first_change,
-        changes: 1,
-    }
-}
-
-// A change with one comparison to guard it.
-fn change(first_guard: u16, first_outcome: u16, outcomes: u16) -> ChangeRow {
-    ChangeRow {
-        first_guard,
-        guards: 1,
-        first_outcome,
-        outcomes,
-    }
-}
-
-// An outcome that sets x to zero.
-fn outcome(weight: u16, stage: u16) -> OutcomeRow {
-    OutcomeRow {
-        weight,
-        stage,
-        resets: 1,
-    }
 }
 
 // Stage 0 holds while x ≤ 3 and changes once x ≥ 2; stage 1 is a goal, holds while x ≤ 5 and changes once x > 1.
