@@ -149,11 +149,18 @@ fn check_section<R: Records>(rows: &R, section: SectionName) -> Result<(), Fault
 }
 
 // The records of the plan, in the order of the file, or the first that breaks a rule.
-pub fn check_rows<R: Records>(rows: &R) -> Result<(), Fault>
+pub(crate) fn check_rows<R: Records>(rows: &R) -> Result<(), Fault>
     ensures { result_err result ≡ rows_fault (R.Records.held rows.now) }
 {
     for section in SECTIONS {
         check_section(rows, section)?;
     }
     Ok(())
+}
+
+// The first rule that a record of the plan breaks and where it does, in the order of the file; none where all are met.
+pub fn fault_in_rows<R: Records>(rows: &R) -> Option<Fault>
+    ensures { result ≡ rows_fault (R.Records.held rows.now) }
+{
+    check_rows(rows).err()
 }

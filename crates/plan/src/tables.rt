@@ -4,7 +4,7 @@ ghost use Rattle.std.specs.Result.{result_err};
 ghost use Rattle.rows.specs.Plans.{counts_of};
 ghost use Rattle.rows.specs.Sections.{section_names};
 ghost use Rattle.rows.specs.Sound.{Fits, Sound};
-ghost use Rattle.rows.specs.Verdicts.{count_fault, first_broken, first_in, room_rules};
+ghost use Rattle.rows.specs.Verdicts.{count_fault, first_broken, first_in, refusal_told, room_rules};
 ghost use Rattle.plan.specs.Handed.{counted_in, fault_in, held_by};
 
 use crate::check::check_rows;
@@ -38,11 +38,27 @@ fn check_counts(rooms: &Counts, n: &Counts) -> Result<(), Fault>
     Ok(())
 }
 
-// Whether handed tables hold a sound plan, or the first rule that they break. Rows past the counts are not looked at.
-pub fn check_tables(handed: Handed<'_>) -> Result<(), Fault>
-    ensures answer { result_err result ≡ fault_in handed.entry }
-    ensures tables_pass_exactly_if_they_are_sound { Decides (is_ok result) (Fits handed.entry.counts (counts_of (held_by handed.entry.tables)) × Sound (counted_in handed.entry)) }
+// The counts and then the rows of handed tables, or the first rule that they break. Rows past the counts are not looked at.
+fn check_handed(handed: Handed<'_>) -> Result<(), Fault>
+    ensures { result_err result ≡ fault_in handed.entry }
 {
     check_counts(&handed.tables.counts(), &handed.counts)?;
     check_rows(&handed.rows())
+}
+
+// Whether handed tables hold a sound plan, or the refusal for the first rule that they break.
+pub fn check_tables(handed: Handed<'_>) -> Result<(), Refusal>
+    ensures answer { result_err result ≡ refusal_told (fault_in handed.entry) }
+    ensures tables_pass_exactly_if_they_are_sound { Decides (is_ok result)
+        (Fits handed.entry.counts (counts_of (held_by handed.entry.tables))
+        × Sound (counted_in handed.entry)) }
+{
+    check_handed(handed).map_err(|fault| fault.refusal)
+}
+
+// The first rule that handed tables break and where they do, so that a planner can mend them; none where they hold a sound plan.
+pub fn fault_in_tables(handed: Handed<'_>) -> Option<Fault>
+    ensures { result ≡ fault_in handed.entry }
+{
+    check_handed(handed).err()
 }

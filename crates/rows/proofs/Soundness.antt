@@ -22,7 +22,7 @@ use Rattle.rows.specs.declared.tables.GoalRow.{GoalRow}
 use Rattle.rows.specs.Plans.{PlanRows, counts_of, front}
 use Rattle.rows.specs.Sections.{count_of, least_of, most_of, section_names}
 use Rattle.rows.specs.Sound.{Fits, Sound, SoundTimer, SoundComparison, SoundStage, SoundChange, SoundOutcome, SoundGoal}
-use Rattle.rows.specs.Verdicts.{Rule, first_broken, fault_at, or_else, record_fault, record_rules, fault_from, first_in, section_fault, rows_fault, count_rules, count_fault, faultless, tables_fault, timer_rules, comparison_rules, stage_rules, change_rules, outcome_rules, goal_rules, no_timer, no_comparison, no_stage, no_change, no_outcome, no_goal}
+use Rattle.rows.specs.Verdicts.{Rule, first_broken, fault_at, or_else, refusal_told, record_fault, record_rules, fault_from, first_in, section_fault, rows_fault, count_rules, count_fault, faultless, tables_fault, timer_rules, comparison_rules, stage_rules, change_rules, outcome_rules, goal_rules, no_timer, no_comparison, no_stage, no_change, no_outcome, no_goal}
 use Rattle.rows.proofs.Faults.{fault_from_none, fault_from_suc, first_in_none, first_in_cons}
 
 -- no rule is broken
@@ -277,14 +277,17 @@ verdict_decides n p = (
   (λ h. ap (λ o. not (is_some o)) (none_from_sound (counts_of p) n (front n p) (front_counts n p h.0) h.0 h.1)),
 )
 
--- the same, at a check that answers the verdict
-pub checked_decides : (n rooms : Counts) (p : PlanRows) (r : Result (Unit {0}) Fault) (o : Option Fault) → rooms ≡ counts_of p → o ≡ first_in (count_fault rooms n) section_names → result_err r ≡ or_else o (rows_fault (front n p)) → Decides (is_ok r) (Fits n (counts_of p) × Sound (front n p))
-checked_decides n rooms p r o same counts e =
-    Decides-at (is_ok r) (not (is_some (tables_fault (counts_of p) n (front n p)))) (passes r ∙ ap (λ x. not (is_some x)) told) (verdict_decides n p)
+-- the same, at a check that answers the refusal for the first broken rule
+pub checked_decides : (n : Counts) (p : PlanRows) (r : Result (Unit {0}) Refusal) → result_err r ≡ refusal_told (tables_fault (counts_of p) n (front n p)) → Decides (is_ok r) (Fits n (counts_of p) × Sound (front n p))
+checked_decides n p r e =
+    Decides-at (is_ok r) (not (is_some (tables_fault (counts_of p) n (front n p))))
+    (passes r ∙ ap (λ x. not (is_some x)) e ∙ told (tables_fault (counts_of p) n (front n p)))
+    (verdict_decides n p)
   where
-    told : result_err r ≡ tables_fault (counts_of p) n (front n p)
-    told = e ∙ ap (λ x. or_else x (rows_fault (front n p))) (counts ∙ ap (λ m. first_in (count_fault m n) section_names) same)
-
-    passes : (r : Result (Unit {0}) Fault) → is_ok r ≡ not (is_some (result_err r))
+    passes : (r : Result (Unit {0}) Refusal) → is_ok r ≡ not (is_some (result_err r))
     passes (Ok _) = refl
     passes (Err _) = refl
+
+    told : (o : Option Fault) → not (is_some (refusal_told o)) ≡ not (is_some o)
+    told None = refl
+    told (Some _) = refl

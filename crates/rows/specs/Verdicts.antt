@@ -37,6 +37,11 @@ abbrev pub fault_at : Where → Option Refusal → Option Fault
 fault_at place None = None
 fault_at place (Some refusal) = Some (record { refusal = refusal; at = place })
 
+-- the refusal of the first broken rule, without its place
+abbrev pub refusal_told : Option Fault → Option Refusal
+refusal_told None = None
+refusal_told (Some f) = Some f.refusal
+
 -- n rows from `first` on, at least one, pass the end of a section of `count` rows
 abbrev pub missing : ℕ → ℕ → ℕ → Bool
 missing first n count = nat_lt 0 n && nat_lt count (first + n)
