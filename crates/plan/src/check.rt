@@ -158,7 +158,8 @@ pub(crate) fn check_rows<R: Records>(rows: &R) -> Result<(), Fault>
     Ok(())
 }
 
-// The first rule that a record of the plan breaks and where it does, in the order of the file; none where all are met.
+// The first rule that a record of the plan breaks, in the order of the file, and where it does;
+// none where all are met.
 pub fn fault_in_rows<R: Records>(rows: &R) -> Option<Fault>
     ensures { result ≡ rows_fault (R.Records.held rows.now) }
 {

@@ -38,7 +38,8 @@ fn check_counts(rooms: &Counts, n: &Counts) -> Result<(), Fault>
     Ok(())
 }
 
-// The counts and then the rows of handed tables, or the first rule that they break. Rows past the counts are not looked at.
+// The counts and then the rows of handed tables, or the first rule that they break.
+// Rows past the counts are not looked at.
 fn check_handed(handed: Handed<'_>) -> Result<(), Fault>
     ensures { result_err result ≡ fault_in handed.entry }
 {
@@ -56,7 +57,8 @@ pub fn check_tables(handed: Handed<'_>) -> Result<(), Refusal>
     check_handed(handed).map_err(|fault| fault.refusal)
 }
 
-// The first rule that handed tables break and where they do, so that a planner can mend them; none where they hold a sound plan.
+// The first rule that handed tables break and where they do, so that a planner can mend them;
+// none where they hold a sound plan.
 pub fn fault_in_tables(handed: Handed<'_>) -> Option<Fault>
     ensures { result ≡ fault_in handed.entry }
 {

@@ -1,12 +1,12 @@
 -- What the filled tables hold after a file that breaks no rule.
-use Rattle.std.proofs.Common.{◌≡◌, ℕ, ◌*◌, ◌/◌, ◌<◌, ◌≤◌, List, [], ◌++◌, length, take, drop, sym, refl, ap, ◌∙◌, subst, arith}
+use Rattle.std.proofs.Common.{◌≡◌, ℕ, ◌*◌, ◌/◌, ◌<◌, ◌≤◌, List, [], ◌++◌, length, take, drop, None, sym, refl, ap, ◌∙◌, subst, arith}
 use native.Mathlib.Nat.{div-eq_of_eq-mul_right}
 use Rattle.std.proofs.lemmas.List.{drop_at, take_at}
 use Rattle.std.specs.List.{flat_map}
 use Rattle.rows.specs.declared.section.Counts.{Counts}
 use Rattle.rows.specs.declared.section.SectionName.{SectionName}
 use Rattle.rows.specs.declared.section.SectionName.TheVariants.{Timers, Comparisons, Stages, Changes, Outcomes, Goal}
-use Rattle.rows.specs.Files.{Read, after, change_at, comparison_at, goal_at, outcome_at, part_in, rows_in, stage_at, timer_at, word_at, from1, from2, from3, from4, from5}
+use Rattle.rows.specs.Files.{Read, after, change_at, comparison_at, goal_at, outcome_at, file_fault, part_in, rows_in, stage_at, timer_at, word_at, from1, from2, from3, from4, from5}
 use Rattle.rows.specs.Plans.{PlanRows, change_bytes, comparison_bytes, counts_of, file_of, front, goal_bytes, outcome_bytes, past, section_bytes, stage_bytes, timer_bytes, word}
 use Rattle.rows.specs.Sections.{count_of, least_of, most_of, size_of}
 use Rattle.rows.specs.Sound.{Sound}
@@ -152,14 +152,22 @@ filled_file rooms b p before later s h =
           ∙ ap (λ z. section_bytes goal_bytes (plan_of p).goals ++ z) (sym s.goals.left);
     })
 
+-- a file whose sections and records break no rule breaks none
+passed_clear : (rooms : Counts) (b : List ℕ) (p : Parts) → Passed rooms b p → file_fault rooms b ≡ None
+passed_clear rooms b p h =
+    let split = h.split in
+    grind arith
+
 -- so the file was read
-pub filled_read : (rooms : Counts) (b : List ℕ) (p : Parts) (before later : PlanRows) (n : Counts) → Passed rooms b p → Filled p before later → n ≡ counts_of (plan_of p) → Read b before later n
-filled_read rooms b p before later n h filled e =
+pub filled_read : (b : List ℕ) (p : Parts) (before later : PlanRows) (n : Counts) → Passed (counts_of before) b p → Filled p before later → counts_of later ≡ counts_of before → n ≡ counts_of (plan_of p) → Read b before later n
+filled_read b p before later n h filled sizes e =
     let rows = filled_front p before later filled in
     subst (λ (m : Counts). Read b before later m) (sym e)
     (record {
-      file = filled_file rooms b p before later h.split filled ∙ ap file_of (sym rows);
-      sound = subst Sound (sym rows) (passed_sound rooms b p h);
+      fits = passed_clear (counts_of before) b p h;
+      file = filled_file (counts_of before) b p before later h.split filled ∙ ap file_of (sym rows);
+      sound = subst Sound (sym rows) (passed_sound (counts_of before) b p h);
       counted = ap counts_of rows;
+      same_sizes = sizes;
       kept = filled_past p before later filled;
     })

@@ -7,7 +7,7 @@ ghost use Rattle.rows.specs.Plans.{change_bytes, comparison_bytes, goal_bytes, o
 use rows::tables::{ChangeRow, ComparisonRow, GoalRow, OutcomeRow, StageRow, TimerRow};
 
 // The number of 16 bits at the byte i, high byte first.
-pub fn word(bytes: &[u8], i: usize) -> u16
+pub(crate) fn word(bytes: &[u8], i: usize) -> u16
     requires { i + 2 ≤ length bytes.now }
     ensures value { result ≡ word_at bytes.now i }
     ensures whole { two_bytes result ≡ take 2 (drop i bytes.now) }
@@ -16,7 +16,7 @@ pub fn word(bytes: &[u8], i: usize) -> u16
 }
 
 // A row that stands in a file: its bytes, how it is read, and how it is written.
-pub trait Row: Copy {
+pub(crate) trait Row: Copy {
     ghost parsed: { List ℕ → ℕ → Self };
 
     ghost written: { Self → List ℕ };
@@ -37,16 +37,17 @@ pub trait Row: Copy {
 
 // How many rows stand in the part of the file that a section fills.
 #[tactic(auto, using(rows::proofs::Files::length_rows_in))]
-pub fn count<R: Row>(part: &[u8]) -> usize
+pub(crate) fn count<R: Row>(part: &[u8]) -> usize
     ensures { result ≡ length (rows_in R.Row.parsed R.Row.SIZE part.now) }
 {
     part.len() / R::SIZE
 }
 
 // The row at a place of such a part.
-pub fn nth_row<R: Row>(part: &[u8], i: usize) -> R
+pub(crate) fn nth_row<R: Row>(part: &[u8], i: usize) -> R
     requires { i < length (rows_in R.Row.parsed R.Row.SIZE part.now) }
-    ensures value { (d : R) → result ≡ slice_index_or (rows_in R.Row.parsed R.Row.SIZE part.now) i d }
+    ensures value { (d : R)
+        → result ≡ slice_index_or (rows_in R.Row.parsed R.Row.SIZE part.now) i d }
     ensures whole { R.Row.written result ≡ take R.Row.SIZE (drop (i * R.Row.SIZE) part.now) }
 {
     R::at(part, i * R::SIZE)

@@ -6,9 +6,11 @@ ghost use Rattle.reader.specs.Filling.{Begins, Records};
 use crate::bytes::{Row, count, nth_row};
 
 // Writes the rows of a part into the front of a table. The other rows stay.
-pub fn fill<R: Row>(part: &[u8], table: &mut [R])
-    requires { Records R.Row.SIZE part.now × (length (rows_in R.Row.parsed R.Row.SIZE part.now) ≤ length table.old) }
-    ensures { Begins R.Row.written part.now (rows_in R.Row.parsed R.Row.SIZE part.now) table.old table.new }
+pub(crate) fn fill<R: Row>(part: &[u8], table: &mut [R])
+    requires { Records R.Row.SIZE part.now
+        × (length (rows_in R.Row.parsed R.Row.SIZE part.now) ≤ length table.old) }
+    ensures { let rows = rows_in R.Row.parsed R.Row.SIZE part.now in
+        Begins R.Row.written part.now rows table.old table.new }
 {
     for (i, row) in table[..count::<R>(part)].iter_mut().enumerate() {
         *row = nth_row(part, i);

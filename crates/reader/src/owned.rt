@@ -3,12 +3,15 @@ ghost use Rattle.std.specs.Prelude.{◌≡◌, Some, IfOk, MatchResult};
 ghost use Rattle.rows.specs.Files.{Read, file_fault};
 ghost use Rattle.rows.specs.Plans.{PlanRows, counts_of, file_of, front};
 ghost use Rattle.rows.specs.Sound.{Fits, Sound};
+ghost use Rattle.rows.specs.Verdicts.{refusal_told};
 ghost use Rattle.plan.specs.Handed.{held_by};
 ghost use Rattle.reader.specs.Gathered.{rows_held};
 
-use crate::read::{TablesMut, read};
+use crate::read::{TablesMut, fault_in_file, read};
 use plan::handed::Tables;
+use plan::records::Records;
 use rows::fault::Fault;
+use rows::refusal::Refusal;
 use rows::section::Counts;
 use rows::tables::{ChangeRow, ComparisonRow, GoalRow, OutcomeRow, StageRow, TimerRow};
 use std::alloc::{AllocError, Global};
@@ -55,10 +58,18 @@ impl OwnedTables {
         }
     }
 
-    // Reads a plan file into the tables and answers how many rows each section has. A file that breaks a rule leaves every table as it was.
-    pub fn read(&mut self, bytes: &[u8]) -> Result<Counts, Fault>
-        ensures answer { MatchResult result (λ n. Read bytes.now (owned_in self.old) (owned_in self.new) n) (λ f. (file_fault (counts_of (owned_in self.old)) bytes.now ≡ Some f) × (owned_in self.new ≡ owned_in self.old)) }
-        ensures the_file_of_every_sound_plan_that_fits_is_read_back { (p : PlanRows) → Sound p → Fits (counts_of p) (counts_of (owned_in self.old)) → bytes.now ≡ file_of p → MatchResult result (λ n. front n (owned_in self.new) ≡ p) (λ _. ⊥) }
+    // Reads a plan file into the tables and answers how many rows each section has.
+    // A file that breaks a rule is refused, and leaves every table as it was.
+    pub fn read(&mut self, bytes: &[u8]) -> Result<Counts, Refusal>
+        ensures answer { MatchResult result
+            (λ n. Read bytes.now (owned_in self.old) (owned_in self.new) n)
+            (λ e. (refusal_told (file_fault (counts_of (owned_in self.old)) bytes.now) ≡ Some e)
+            × (owned_in self.new ≡ owned_in self.old)) }
+        ensures the_file_of_every_sound_plan_that_fits_is_read_back { (p : PlanRows)
+            → Sound p
+            → Fits (counts_of p) (counts_of (owned_in self.old))
+            → bytes.now ≡ file_of p
+            → MatchResult result (λ n. front n (owned_in self.new) ≡ p) (λ _. ⊥) }
     {
         read_rows(
             bytes,
@@ -69,6 +80,14 @@ impl OwnedTables {
             &mut self.outcomes,
             &mut self.goals,
         )
+    }
+
+    // The first rule that a file breaks where it is read into these tables, and where it does;
+    // none where the file is read.
+    pub fn fault_in(&self, bytes: &[u8]) -> Option<Fault>
+        ensures { result ≡ file_fault (counts_of (owned_in self.now)) bytes.now }
+    {
+        fault_in_file(bytes, &self.view().counts())
     }
 
     // Leaves the rows that are counted, as far as there are any.
@@ -94,9 +113,24 @@ fn read_rows(
     changes: &mut [ChangeRow],
     outcomes: &mut [OutcomeRow],
     goals: &mut [GoalRow],
-) -> Result<Counts, Fault>
-    ensures answer { let before = rows_held timers.old comparisons.old stages.old changes.old outcomes.old goals.old in let later = rows_held timers.new comparisons.new stages.new changes.new outcomes.new goals.new in MatchResult result (λ n. Read bytes.now before later n) (λ f. (file_fault (counts_of before) bytes.now ≡ Some f) × (later ≡ before)) }
-    ensures the_file_of_every_sound_plan_that_fits_is_read_back { let before = rows_held timers.old comparisons.old stages.old changes.old outcomes.old goals.old in let later = rows_held timers.new comparisons.new stages.new changes.new outcomes.new goals.new in (p : PlanRows) → Sound p → Fits (counts_of p) (counts_of before) → bytes.now ≡ file_of p → MatchResult result (λ n. front n later ≡ p) (λ _. ⊥) }
+) -> Result<Counts, Refusal>
+    ensures answer { let before =
+        rows_held timers.old comparisons.old stages.old changes.old outcomes.old goals.old in
+        let later =
+        rows_held timers.new comparisons.new stages.new changes.new outcomes.new goals.new in
+        MatchResult result
+        (λ n. Read bytes.now before later n)
+        (λ e. (refusal_told (file_fault (counts_of before) bytes.now) ≡ Some e)
+        × (later ≡ before)) }
+    ensures the_file_of_every_sound_plan_that_fits_is_read_back { let before =
+        rows_held timers.old comparisons.old stages.old changes.old outcomes.old goals.old in
+        let later =
+        rows_held timers.new comparisons.new stages.new changes.new outcomes.new goals.new in
+        (p : PlanRows)
+        → Sound p
+        → Fits (counts_of p) (counts_of before)
+        → bytes.now ≡ file_of p
+        → MatchResult result (λ n. front n later ≡ p) (λ _. ⊥) }
 {
     let tables = TablesMut {
         timers,

@@ -6,7 +6,7 @@ ghost use Rattle.reader.specs.Split.{Passed, Split, plan_of};
 
 use crate::bytes::{count, nth_row};
 use crate::section::{Section, cut};
-use plan::check::check_rows;
+use plan::check::fault_in_rows;
 use plan::records::Records;
 use rows::fault::{Fault, Where};
 use rows::refusal::Refusal;
@@ -26,7 +26,9 @@ pub struct Parts<'a> {
 
 // Takes a file apart, or says which section breaks a rule, or that bytes follow the last.
 pub fn split<'a>(rooms: &Counts, bytes: &'a [u8]) -> Result<Parts<'a>, Fault>
-    ensures { MatchResult result (λ p. Split rooms.now bytes.now p) (λ f. layout_fault rooms.now section_names bytes.now ≡ Some f) }
+    ensures { MatchResult result
+        (λ p. Split rooms.now bytes.now p)
+        (λ f. layout_fault rooms.now section_names bytes.now ≡ Some f) }
 {
     let (timers, rest) = cut(SectionName::Timers, rooms, bytes)?;
     let (comparisons, rest) = cut(SectionName::Comparisons, rooms, rest)?;
@@ -91,9 +93,13 @@ impl<'a> Records for Parts<'a> {
 
 // The parts of a file that breaks no rule, or the first rule that it breaks.
 pub fn sound_parts<'a>(rooms: &Counts, bytes: &'a [u8]) -> Result<Parts<'a>, Fault>
-    ensures { MatchResult result (λ p. Passed rooms.now bytes.now p) (λ f. file_fault rooms.now bytes.now ≡ Some f) }
+    ensures { MatchResult result
+        (λ p. Passed rooms.now bytes.now p)
+        (λ f. file_fault rooms.now bytes.now ≡ Some f) }
 {
     let parts = split(rooms, bytes)?;
-    check_rows(&parts)?;
-    Ok(parts)
+    match fault_in_rows(&parts) {
+        None => Ok(parts),
+        Some(fault) => Err(fault),
+    }
 }

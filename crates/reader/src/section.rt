@@ -73,7 +73,9 @@ pub fn cut<'a>(
     rooms: &Counts,
     bytes: &'a [u8],
 ) -> Result<(Section<'a>, &'a [u8]), Fault>
-    ensures { MatchResult result (λ x. Cut name rooms.now bytes.now x.0 x.1.now) (λ f. part_fault name rooms.now bytes.now ≡ Some f) }
+    ensures { MatchResult result
+        (λ x. Cut name rooms.now bytes.now x.0 x.1.now)
+        (λ f. part_fault name rooms.now bytes.now ≡ Some f) }
 {
     placed(
         check_part(name, rooms.of(name), bytes),

@@ -1,4 +1,4 @@
-use Rattle.std.proofs.Common.{◌≡◌, Some, sym, refl, ap, ◌∙◌, subst}
+use Rattle.std.proofs.Common.{◌≡◌, Some, Ok, Err, Result, MatchResult, IsErrAnd, sym, ap, ◌∙◌, subst}
 use Rattle.rows.specs.declared.section.Counts.{Counts}
 use Rattle.rows.specs.declared.section.SectionName.TheVariants.{Timers, Comparisons, Stages, Changes, Outcomes, Goal}
 use Rattle.rows.specs.Files.{Read, change_at, comparison_at, file_fault, goal_at, outcome_at, stage_at, timer_at}
@@ -7,27 +7,42 @@ use Rattle.rows.proofs.Faults.{exit_told}
 use Rattle.rows.proofs.Files.{fault_is_no_plan, one_plan_a_file}
 use Rattle.reader.specs.Gathered.{gathered, rows_held}
 use Rattle.reader.specs.Parts.{bytes_in}
-use Rattle.reader.specs.Split.{Split}
+use Rattle.reader.specs.declared.parts.Parts.{Parts}
+use Rattle.rows.specs.declared.fault.Fault.{Fault}
+use Rattle.rows.specs.declared.refusal.Refusal.{Refusal}
+use Rattle.reader.specs.Split.{Passed}
 use Rattle.reader.proofs.Reading.{Filled, Sections, begins_at, filled_read, split_counted, table_fits}
 use Rattle.reader.proofs.read.read.Goals as goal
 use Rattle.reader.proofs.read.read.Goals.{In_ok-parts}
 
-pub returns-in_err-parts : goal.returns-in_err-parts
-returns-in_err-parts c =
+-- a refusal that was told without its place stands for the fault that was found, and what passed is passed on
+passed_on : (r : Result Parts Fault) (m : Result Parts Refusal) (p : Parts) (P : Parts → Type 0) (Q : Fault → Type 0) (R : Fault → Refusal → Type 0) → MatchResult r P Q → MatchResult r (λ x. m ≡ Ok x) (λ f. IsErrAnd m (R f)) → m ≡ Ok p → P p
+passed_on (Ok x) m p P Q R h told e = let same : x ≡ p = cc in subst P same h
+passed_on (Err f) m p P Q R h told e = absurd (subst (λ (z : Result Parts Refusal). IsErrAnd z (R f)) e told)
+
+failed_on : (r : Result Parts Fault) (m : Result Parts Refusal) (e : Refusal) (P : Parts → Type 0) (Q : Fault → Type 0) (R : Fault → Refusal → Type 0) → MatchResult r P Q → MatchResult r (λ x. m ≡ Ok x) (λ f. IsErrAnd m (R f)) → m ≡ Err e → (f : Fault) × Q f
+failed_on (Ok x) m e P Q R h told g = absurd (cc)
+failed_on (Err f) m e P Q R h told g = (f, h)
+
+pub returns-in_err-parts-clause-the_file_of_every_sound_plan_that_fits_is_read_back :
+    goal.returns-in_err-parts-clause-the_file_of_every_sound_plan_that_fits_is_read_back
+returns-in_err-parts-clause-the_file_of_every_sound_plan_that_fits_is_read_back c =
     let before : PlanRows = gathered c.args.tables in
+    let found = failed_on c.sound_parts.result c.map_err.result c.in_err-parts.field-0.0 _ _ _ c.sound_parts.ensures c.map_err.ensures.cases c.in_err-parts.was in
     let same = c.counts.ensures ∙ ap counts_of c.view.ensures in
-    let fault : file_fault (counts_of before) c.args.bytes.now ≡ Some c.in_err-parts.field-0.0 =
-    ap (λ n. file_fault n c.args.bytes.now) (sym same) ∙ c.in_err-parts.ensures in
+    let fault : file_fault (counts_of before) c.args.bytes.now ≡ Some found.0 = ap (λ n. file_fault n c.args.bytes.now) (sym same) ∙ found.1 in
     rw (exit_told c.from_residual.result c.from_residual.ensures.1)
-    (record {
-      answer = (fault, refl);
-      the_file_of_every_sound_plan_that_fits_is_read_back = fault_is_no_plan (counts_of before) c.args.bytes.now c.in_err-parts.field-0.0 fault;
-    })
+    (fault_is_no_plan (counts_of before) c.args.bytes.now found.0 fault)
+
+passed : (c : In_ok-parts) → Passed (counts_of (gathered c.args.tables)) c.args.bytes.now c.in_ok-parts.parts
+passed c =
+    let same = c.counts.ensures ∙ ap counts_of c.view.ensures in
+    subst (λ (n : Counts). Passed n c.args.bytes.now c.in_ok-parts.parts) same
+    (passed_on c.sound_parts.result c.map_err.result c.in_ok-parts.parts _ _ _ c.sound_parts.ensures c.map_err.ensures.cases c.in_ok-parts.was)
 
 -- the sections are held against the room of the handed tables
 sections : (c : In_ok-parts) → Sections (counts_of (gathered c.args.tables)) c.args.bytes.now c.in_ok-parts.parts
-sections c =
-    split_counted (counts_of (gathered c.args.tables)) c.args.bytes.now c.in_ok-parts.parts (subst (λ (n : Counts). Split n c.args.bytes.now c.in_ok-parts.parts) (c.counts.ensures ∙ ap counts_of c.view.ensures) c.in_ok-parts.ensures.split)
+sections c = split_counted (counts_of (gathered c.args.tables)) c.args.bytes.now c.in_ok-parts.parts (passed c).split
 
 pub fill-requires : goal.fill-requires
 fill-requires c = table_fits Timers timer_at _ _ _ _ (sections (goal.at.fill-requires c).In_ok-parts).timers c.bytes.ensures
@@ -50,7 +65,6 @@ fill-requires-6 c = table_fits Goal goal_at _ _ _ _ (sections (goal.at.fill-requ
 pub returns : goal.returns
 returns c =
     let parts = c.in_ok-parts.parts in
-    let passed = c.in_ok-parts.ensures in
     let before : PlanRows = gathered c.args.tables in
     let later : PlanRows = rows_held c.fill.new.table c.fill-2.new.table c.fill-3.new.table c.fill-4.new.table c.fill-5.new.table c.fill-6.new.table in
     let filled : Filled parts before later =
@@ -63,7 +77,9 @@ returns c =
       goals = begins_at goal_at goal_bytes 4 c.bytes-6.result.now (bytes_in parts.goals) before.goals later.goals c.bytes-6.ensures c.fill-6.ensures;
     } in
     let was : Read c.args.bytes.now before later c.counts-counts.result =
-    filled_read c.counts.result c.args.bytes.now parts before later c.counts-counts.result passed filled c.counts-counts.ensures in
+    filled_read c.args.bytes.now parts before later c.counts-counts.result (passed (goal.at.returns c).In_ok-parts) filled
+    (λ i. record { timers = c.fill.auto.table i; comparisons = c.fill-2.auto.table i; stages = c.fill-3.auto.table i; changes = c.fill-4.auto.table i; outcomes = c.fill-5.auto.table i; goals = c.fill-6.auto.table i })
+    c.counts-counts.ensures in
     record {
       answer = was;
       the_file_of_every_sound_plan_that_fits_is_read_back = λ p sound fits e. one_plan_a_file _ p (sym was.file ∙ e);
