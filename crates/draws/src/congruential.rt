@@ -1,6 +1,7 @@
 // Endless rows of draws, computed from a seed.
 ghost use Rattle.std.specs.Prelude.{◌≡◌};
 ghost use Rattle.draws.specs.Computed.{after, book_of, coming_of, computed, first_state};
+ghost use Rattle.draws.specs.Ends.{endless_ends};
 ghost use Rattle.draws.specs.Fits.{endless_fit};
 
 use crate::source::DrawSource;
@@ -49,6 +50,10 @@ impl DrawSource for Congruential {
     ghost book_fits = { λ s row. endless_fit (first_state s.seed row) };
 
     ghost coming_fits = { λ s. endless_fit s.state };
+
+    ghost book_ends = { λ s row. endless_ends (first_state s.seed row) };
+
+    ghost coming_ends = { λ s. endless_ends s.state };
 
     fn draw(&mut self) -> Result<u32, Refusal> {
         self.state = next(self.state);

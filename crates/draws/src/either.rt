@@ -1,6 +1,7 @@
 // A source of either kind.
 ghost use Rattle.draws.specs.Computed.{first_state};
 ghost use Rattle.draws.specs.Either.{book_of, coming_of};
+ghost use Rattle.draws.specs.Ends.{endless_ends, listed_ends, recorded_ends};
 ghost use Rattle.draws.specs.Fits.{endless_fit, listed_fit, recorded_fit};
 ghost use Rattle.draws.specs.declared.either.Source.TheVariants.{Computed, Recorded};
 
@@ -30,6 +31,16 @@ impl<'a> DrawSource for Source<'a> {
     ghost coming_fits = { elim [
       | Computed c ↦ endless_fit c.state
       | Recorded t ↦ listed_fit t.left.now t.left_fit
+    ] };
+
+    ghost book_ends = { elim [
+      | Computed c ↦ λ row. endless_ends (first_state c.seed row)
+      | Recorded t ↦ recorded_ends t.row_length t.numbers.now
+    ] };
+
+    ghost coming_ends = { elim [
+      | Computed c ↦ endless_ends c.state
+      | Recorded t ↦ listed_ends t.left.now
     ] };
 
     // Draws from the source that it holds.

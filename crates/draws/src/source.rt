@@ -1,6 +1,6 @@
 // A source of draws: rows of draws by number, and the draws of the present row still to come.
 ghost use Rattle.std.specs.Prelude.{◌≡◌, ℕ, true, is_err};
-ghost use Rattle.draws.specs.Sources.{drawn};
+ghost use Rattle.draws.specs.Sources.{FiniteOrEndless, drawn};
 ghost use Rattle.runs.specs.Runs.{Draws};
 ghost use Rattle.runs.specs.Telling.{DrawsFit};
 
@@ -19,6 +19,12 @@ pub trait DrawSource {
 
     // So has every draw to come.
     ghost coming_fits: { (s : Self) → DrawsFit (coming s) };
+
+    // Every row is finite or endless: after a place with no draw there is none.
+    ghost book_ends: { (s : Self) (row : ℕ) → FiniteOrEndless (book s row) };
+
+    // So are the draws to come.
+    ghost coming_ends: { (s : Self) → FiniteOrEndless (coming s) };
 
     // Gives the first draw to come. Where none is to come it is refused and alters nothing.
     fn draw(&mut self) -> Result<u32, Refusal>

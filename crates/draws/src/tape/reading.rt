@@ -1,5 +1,6 @@
 // The rows of a tape, and the draws of the present one.
 ghost use Rattle.std.specs.Prelude.{◌≡◌, ◌≤◌};
+ghost use Rattle.draws.specs.Ends.{listed_ends, recorded_ends};
 ghost use Rattle.draws.specs.Fits.{listed_fit, recorded_fit};
 ghost use Rattle.draws.specs.Recorded.{Fit, kept, numbers_of, recorded};
 ghost use Rattle.draws.specs.Taped.{book_of, coming_of};
@@ -53,6 +54,10 @@ impl<'a> DrawSource for Tape<'a> {
     ghost book_fits = { λ s. recorded_fit s.row_length s.numbers.now s.numbers_fit };
 
     ghost coming_fits = { λ s. listed_fit s.left.now s.left_fit };
+
+    ghost book_ends = { λ s. recorded_ends s.row_length s.numbers.now };
+
+    ghost coming_ends = { λ s. listed_ends s.left.now };
 
     fn draw(&mut self) -> Result<u32, Refusal> {
         let (first, rest) = self.left.split_first().ok_or(Refusal::NoDrawToCome)?;
