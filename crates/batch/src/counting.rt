@@ -4,7 +4,7 @@ ghost use Rattle.batch.specs.Batches.{counted, first_runs, none_yet, one_more, s
 ghost use Rattle.batch.specs.Progresses.{progress_of};
 ghost use Rattle.batch.specs.Promised.{runs_in};
 ghost use Rattle.offers.specs.Known.{plan_of};
-ghost use Rattle.run.specs.Views.{plan_for, view_of};
+ghost use Rattle.run.specs.Views.{GoesOn, plan_for, view_of};
 ghost use Rattle.schedulers.specs.Meanings.{sampled_by};
 
 use crate::BatchRow;
@@ -14,18 +14,11 @@ use run::Run;
 use runs::Standing;
 use schedulers::sampled::Sampled;
 
-// What is left of the allowance, and the source of the draws.
-#[derive(Drop)]
-pub(crate) struct Hand<D> {
-    pub(crate) left: u32,
-    pub(crate) source: D,
-}
-
-// The row of an identifier so far, and what its next run goes on with.
-#[derive(Drop)]
-pub(crate) struct Progress<D> {
+// The row of an identifier so far, and what is left of the allowance.
+#[derive(Clone, Copy)]
+pub(crate) struct Progress {
     pub(crate) row: BatchRow,
-    pub(crate) hand: Hand<D>,
+    pub(crate) left: u32,
 }
 
 impl BatchRow {
@@ -54,10 +47,10 @@ impl BatchRow {
 }
 
 // Steps a run, at most so many times, until a step is refused. Tells how many were granted.
-fn steps_granted<'p, D: DrawSource>(run: &mut Run<'p, D>, scheduler: &Sampled, most: u32) -> u32
+fn steps_granted<D: DrawSource>(run: &mut Run<'_, '_, D>, scheduler: &Sampled, most: u32) -> u32
     ensures stepped { stepped (plan_for run.old) (sampled_by scheduler.now.identifier) most (view_of D.DrawSource.coming run.old) ≡ (view_of D.DrawSource.coming run.new, result) }
     ensures no_more { result ≤ most }
-    ensures book_kept { D.DrawSource.book run.new.source ≡ D.DrawSource.book run.old.source }
+    ensures goes_on { GoesOn D.DrawSource.book run.old run.new }
 {
     for granted in 0..most {
         if run.step(scheduler).is_err() {
@@ -67,45 +60,46 @@ fn steps_granted<'p, D: DrawSource>(run: &mut Run<'p, D>, scheduler: &Sampled, m
     most
 }
 
-impl<D: DrawSource> Progress<D> {
+impl Progress {
     // Makes the run that starts a row of the source, and counts it.
-    fn one_more(self, job: &Job<'_>, row: u32) -> Progress<D>
-        requires { runs_in self.row < 10000 }
-        ensures counted { progress_of D.DrawSource.coming result ≡ one_more (plan_of job.now.plan) (D.DrawSource.book self.hand.source) job.now.limits.steps row (progress_of D.DrawSource.coming self) }
-        ensures book_kept { D.DrawSource.book result.hand.source ≡ D.DrawSource.book self.hand.source }
+    fn one_more<D: DrawSource>(&mut self, job: &Job<'_>, source: &mut D, row: u32)
+        requires { runs_in self.old.row < 10000 }
+        ensures counted { progress_of (D.DrawSource.coming source.new) self.new
+            ≡ one_more (plan_of job.now.plan) (D.DrawSource.book source.old) job.now.limits.steps
+            row (progress_of (D.DrawSource.coming source.old) self.old) }
+        ensures book_kept { D.DrawSource.book source.new ≡ D.DrawSource.book source.old }
     {
-        let Hand { left, mut source } = self.hand;
         source.start_row(row);
         let mut run = Run::of_plan(job.plan, source);
         let scheduler = Sampled {
             identifier: self.row.identifier,
         };
-        let most = job.limits.steps.min(left);
-        let granted = steps_granted(&mut run, &scheduler, most);
-        let mut counts = self.row;
-        counts.count(run.standing());
-        Progress {
-            row: counts,
-            hand: Hand {
-                left: left - granted,
-                source: run.close(),
-            },
-        }
+        let most = job.limits.steps.min(self.left);
+        self.left -= steps_granted(&mut run, &scheduler, most);
+        self.row.count(run.standing());
     }
 }
 
-impl<'p> Job<'p> {
+impl Job<'_> {
     // Makes all runs of an identifier, with what is left of the allowance.
-    pub(crate) fn runs_of<D: DrawSource>(&self, identifier: u32, hand: Hand<D>) -> Progress<D>
-        ensures counted { progress_of D.DrawSource.coming result ≡ first_runs (plan_of self.now.plan) (D.DrawSource.book hand.source) self.now.limits.steps self.now.limits.runs (none_yet identifier hand.left (D.DrawSource.coming hand.source)) }
-        ensures book_kept { D.DrawSource.book result.hand.source ≡ D.DrawSource.book hand.source }
+    pub(crate) fn runs_of<D: DrawSource>(
+        &self,
+        source: &mut D,
+        identifier: u32,
+        left: u32,
+    ) -> Progress
+        ensures counted { progress_of (D.DrawSource.coming source.new) result
+            ≡ first_runs (plan_of self.now.plan) (D.DrawSource.book source.old)
+            self.now.limits.steps self.now.limits.runs
+            (none_yet identifier left (D.DrawSource.coming source.old)) }
+        ensures book_kept { D.DrawSource.book source.new ≡ D.DrawSource.book source.old }
     {
         let mut progress = Progress {
             row: BatchRow::of(identifier),
-            hand,
+            left,
         };
         for row in 0..self.limits.runs {
-            progress = progress.one_more(self, row);
+            progress.one_more(self, source, row);
         }
         progress
     }

@@ -6,56 +6,56 @@ ghost use Rattle.offers.specs.Known.{plan_of};
 ghost use Rattle.logs.specs.Logs.{past_of};
 
 use crate::BatchRow;
-use crate::counting::Hand;
 use crate::job::Job;
 use crate::watch::Watch;
 use draws::source::DrawSource;
 use logs::Log;
 
-impl<D: DrawSource> Hand<D> {
-    // Makes all runs of an identifier, and enters its row.
-    fn enter_row<W: Watch>(
-        self,
-        job: &Job<'_>,
+impl Job<'_> {
+    // Makes all runs of an identifier, and enters its row. Tells what is left of the allowance.
+    fn enter_row<D: DrawSource, W: Watch>(
+        &self,
+        source: &mut D,
         identifier: u32,
+        left: u32,
         log: &mut Log<'_, BatchRow>,
         watch: &mut W,
-    ) -> Hand<D>
+    ) -> u32
         requires { 1 ≤ length (past_of log.old) }
-        ensures entered { Entered (one_row (plan_of job.now.plan) (D.DrawSource.book self.source) job.now.limits (record { rows = []; left = self.left; coming = D.DrawSource.coming self.source }) identifier) log.old log.new result.left (D.DrawSource.coming result.source) }
-        ensures book_kept { D.DrawSource.book result.source ≡ D.DrawSource.book self.source }
+        ensures entered { Entered (one_row (plan_of self.now.plan) (D.DrawSource.book source.old)
+            self.now.limits
+            (record { rows = []; left = left; coming = D.DrawSource.coming source.old }) identifier)
+            log.old log.new result (D.DrawSource.coming source.new) }
+        ensures book_kept { D.DrawSource.book source.new ≡ D.DrawSource.book source.old }
         ensures same_rows { log.new.rows.ghost_name ≡ log.old.rows.ghost_name }
     {
-        let done = job.runs_of(identifier, self);
+        let done = self.runs_of(source, identifier, left);
         // Not refused: there is room for the row.
         let _ = log.enter(done.row);
         watch.row_done(&done.row);
-        done.hand
+        done.left
     }
-}
 
-impl<'p> Job<'p> {
     // Makes all runs of every identifier, in order, and enters its row.
     pub(crate) fn enter_rows<D: DrawSource, W: Watch>(
         &self,
-        source: D,
+        source: &mut D,
         identifiers: &[u32],
         log: &mut Log<'_, BatchRow>,
         watch: &mut W,
-    ) -> D
+    )
         requires { length identifiers.now ≤ length (past_of log.old) }
-        ensures joined { Joined (all_made (plan_of self.now.plan) (D.DrawSource.book source) (D.DrawSource.coming source) self.now.limits identifiers.now).rows log.old log.new }
-        ensures draws { D.DrawSource.coming result ≡ (all_made (plan_of self.now.plan) (D.DrawSource.book source) (D.DrawSource.coming source) self.now.limits identifiers.now).coming }
-        ensures book_kept { D.DrawSource.book result ≡ D.DrawSource.book source }
+        ensures joined { Joined (all_made (plan_of self.now.plan) (D.DrawSource.book source.old)
+            (D.DrawSource.coming source.old) self.now.limits identifiers.now).rows log.old log.new }
+        ensures draws { D.DrawSource.coming source.new
+            ≡ (all_made (plan_of self.now.plan) (D.DrawSource.book source.old)
+            (D.DrawSource.coming source.old) self.now.limits identifiers.now).coming }
+        ensures book_kept { D.DrawSource.book source.new ≡ D.DrawSource.book source.old }
         ensures same_rows { log.new.rows.ghost_name ≡ log.old.rows.ghost_name }
     {
-        let mut hand = Hand {
-            left: self.limits.allowance,
-            source,
-        };
+        let mut left = self.limits.allowance;
         for identifier in identifiers {
-            hand = hand.enter_row(self, *identifier, log, watch);
+            left = self.enter_row(source, *identifier, left, log, watch);
         }
-        hand.source
     }
 }

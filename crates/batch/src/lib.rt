@@ -53,30 +53,36 @@ pub const LARGEST: Limits = Limits {
 // The most identifiers that a batch may have.
 pub const MOST_IDENTIFIERS: usize = 1_000;
 
-// Runs every identifier as often as the limits say, on handed tables and the first rows of a source, and enters a row for each. Where a number is off its limits, or the log has no room for all rows, it is refused before anything is done. The source is given back whatever the answer, so it stands beside the result.
+// Runs every identifier as often as the limits say, on handed tables and the first rows of a source, and enters a row for each. Where a number is off its limits, or the log has no room for all rows, it is refused before anything is done.
 #[tactic(auto, using(crate::proofs::Sums::the_four_counts_sum, crate::proofs::Alone::counts_each_by_itself))]
 pub fn batch<'p, D: DrawSource, W: Watch>(
     handed: Handed<'p>,
-    source: D,
+    source: &mut D,
     identifiers: &[u32],
     limits: Limits,
     log: &mut Log<'_, BatchRow>,
     watch: &mut W,
-) -> (Result<(), Refusal>, D)
-    ensures batched { Batched (plan_in (checked handed.entry)) (D.DrawSource.book source) (D.DrawSource.coming source) limits identifiers.now log.old log.new (D.DrawSource.coming result.1) result.0 }
-    ensures the_four_counts_sum_to_the_runs { TheFourCountsSumToTheRuns (plan_in (checked handed.entry)) (D.DrawSource.book source) (D.DrawSource.coming source) limits identifiers.now }
-    ensures a_batch_without_a_binding_allowance_counts_each_run_by_itself { ABatchWithoutABindingAllowanceCountsEachRunByItself (plan_in (checked handed.entry)) (D.DrawSource.book source) (D.DrawSource.coming source) limits identifiers.now }
-    ensures every_run_of_a_batch_tells_a_tick_run { EveryRunOfABatchTellsATickRun (plan_in (checked handed.entry)) (D.DrawSource.book source) }
-    ensures book_kept { D.DrawSource.book result.1 ≡ D.DrawSource.book source }
-    ensures refused_unchanged { is_err result.0 ≡ true → result.1 ≡ source }
+) -> Result<(), Refusal>
+    ensures batched { Batched (plan_in (checked handed.entry)) (D.DrawSource.book source.old)
+        (D.DrawSource.coming source.old) limits identifiers.now log.old log.new
+        (D.DrawSource.coming source.new) result }
+    ensures the_four_counts_sum_to_the_runs { TheFourCountsSumToTheRuns
+        (plan_in (checked handed.entry)) (D.DrawSource.book source.old)
+        (D.DrawSource.coming source.old) limits identifiers.now }
+    ensures a_batch_without_a_binding_allowance_counts_each_run_by_itself { ABatchWithoutABindingAllowanceCountsEachRunByItself
+        (plan_in (checked handed.entry)) (D.DrawSource.book source.old)
+        (D.DrawSource.coming source.old) limits identifiers.now }
+    ensures every_run_of_a_batch_tells_a_tick_run { EveryRunOfABatchTellsATickRun
+        (plan_in (checked handed.entry)) (D.DrawSource.book source.old) }
+    ensures book_kept { D.DrawSource.book source.new ≡ D.DrawSource.book source.old }
+    ensures refused_unchanged { is_err result ≡ true → source.new ≡ source.old }
     ensures same_rows { log.new.rows.ghost_name ≡ log.old.rows.ghost_name }
 {
-    if let Err(refusal) = admit(identifiers.len(), limits, log.room()) {
-        return (Err(refusal), source);
-    }
+    admit(identifiers.len(), limits, log.room())?;
     let job = Job {
         plan: Plan::of_tables(handed),
         limits,
     };
-    (Ok(()), job.enter_rows(source, identifiers, log, watch))
+    job.enter_rows(source, identifiers, log, watch);
+    Ok(())
 }

@@ -92,11 +92,11 @@ fn example() -> Rows {
 
 // Runs identifiers on a source.
 fn run_batch<D: DrawSource>(
-    source: D,
+    source: &mut D,
     identifiers: &[u32],
     limits: Limits,
     log: &mut Log<'_, BatchRow>,
-) -> (Result<(), Refusal>, D) {
+) -> Result<(), Refusal> {
     let rows = example();
     let tables = Tables {
         timers: &TIMERS,
@@ -140,7 +140,7 @@ fn identifier_4_always_reaches_the_goal(rt: HostRuntime) {
     let mut rows = [BatchRow::default(); 2];
     let mut log = Log::new(&mut rows);
     let limits = limits(10_000, 1_000, 1_000_000_000);
-    let (answer, _) = run_batch(Congruential::new(0), &[0, 4], limits, &mut log);
+    let answer = run_batch(&mut Congruential::new(0), &[0, 4], limits, &mut log);
     assert_eq!(rt; answer, Ok(()));
     assert_eq!(rt;
         log.entries(),
@@ -162,8 +162,8 @@ fn a_run_without_allowance_or_draws_is_unfinished(rt: HostRuntime) {
     for (limits, made) in cases {
         let mut rows = [BatchRow::default(); 2];
         let mut log = Log::new(&mut rows);
-        let tape = Tape::new(&HIGHEST, 2);
-        let (answer, _) = run_batch(tape, &[0, 4], limits, &mut log);
+        let mut tape = Tape::new(&HIGHEST, 2);
+        let answer = run_batch(&mut tape, &[0, 4], limits, &mut log);
         assert_eq!(rt; answer, Ok(()));
         assert_eq!(rt; log.entries(), made.as_slice());
     }
@@ -173,8 +173,7 @@ fn a_run_without_allowance_or_draws_is_unfinished(rt: HostRuntime) {
 fn answer_without_rows(identifiers: &[u32], limits: Limits) -> Result<(), Refusal> {
     let mut rows: [BatchRow; 0] = [];
     let mut log = Log::new(&mut rows);
-    let (answer, _) = run_batch(Congruential::new(0), identifiers, limits, &mut log);
-    answer
+    run_batch(&mut Congruential::new(0), identifiers, limits, &mut log)
 }
 
 #[test]
@@ -216,7 +215,8 @@ fn the_limits_are_kept(rt: HostRuntime) {
 fn rows_that_do_not_all_fit_are_not_entered(rt: HostRuntime) {
     let mut rows = [row(7, 7, 7, 7, 7)];
     let mut log = Log::new(&mut rows);
-    let (answer, source) = run_batch(Congruential::new(0), &[0, 4], limits(1, 1, 1), &mut log);
+    let mut source = Congruential::new(0);
+    let answer = run_batch(&mut source, &[0, 4], limits(1, 1, 1), &mut log);
     assert_eq!(rt; answer, Err(Refusal::LogFull));
     assert_eq!(rt; source, Congruential::new(0));
     assert_eq!(rt; log.len(), 0);

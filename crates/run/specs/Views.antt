@@ -12,7 +12,7 @@ use Rattle.run.specs.declared.Run.{Run}
 -- where a run is, when this is what its source says of the draws to come
 abbrev pub view_of : {D : Type 0} → (D → runs.Draws) → Run D → runs.Run
 view_of coming r =
-    record { stage = r.at.stage; region = viewed r.at.region; standing = r.standing; coming = coming r.source }
+    record { stage = r.at.stage; region = viewed r.at.region; standing = r.standing; coming = coming r.source.now }
 
 -- the plan of a run
 abbrev pub plan_for : {D : Type 0} → Run D → Plan
@@ -24,6 +24,12 @@ pub record Allowed (p : PlanRows) (run : runs.Run) (c d : ℕ) (row : ChangeRow)
   pub of_stage : OfStage (plan_in p) run.stage c
   pub its_row : change_of_row p row ≡ change_of (plan_in p) run.stage c
   pub in_hold : d ≤ runs.top (plan_in p) run.stage run.region
+
+-- a run goes on: its plan and its source are those that it had, and the book of the source stays
+pub record GoesOn {D : Type 0} (book_of : D → ℕ → runs.Draws) (before then : Run D) : Type 0 where
+  pub plan : then.plan ≡ before.plan
+  pub book : book_of then.source.now ≡ book_of before.source.now
+  pub lent : then.source.ghost_name ≡ before.source.ghost_name
 
 -- the plan and the source are as they were
 pub record Kept {D : Type 0} (before then : Run D) : Type 0 where

@@ -19,12 +19,12 @@ mod take;
 use offers::sound_plan::Plan;
 use runs::{Standing, State};
 
-// A run owns its plan and the source of its draws. Once opened, both are reached by its calls only.
+// A run has its plan, and borrows the source of its draws. While it lives both are reached by its calls only; once it is gone the source is the caller's again.
 // What a call leaves as it was is said by each call: it holds of the run before and after, and no type of one run can keep it.
 #[derive(Drop)]
-pub struct Run<'p, D> {
+pub struct Run<'p, 's, D> {
     plan: Plan<'p>,
-    source: D,
+    source: &'s mut D,
     at: State,
     standing: Standing,
     ghost in_bounds: { ∥ InBounds (plan_of plan) (viewed at.region) ∥₁ },

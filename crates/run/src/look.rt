@@ -1,4 +1,4 @@
-// How a run stands, and its end.
+// How a run stands.
 ghost use Rattle.std.specs.Prelude.{◌≡◌};
 ghost use Rattle.run.specs.Views.{view_of};
 
@@ -6,18 +6,11 @@ use crate::Run;
 use draws::source::DrawSource;
 use runs::Standing;
 
-impl<'p, D: DrawSource> Run<'p, D> {
+impl<D: DrawSource> Run<'_, '_, D> {
     // How the run stands.
     pub fn standing(&self) -> Standing
         ensures { result ≡ (view_of D.DrawSource.coming self.now).standing }
     {
         self.standing
-    }
-
-    // Ends the run and gives its source back.
-    pub fn close(self) -> D
-        ensures { result ≡ self.entry.source }
-    {
-        self.source
     }
 }

@@ -8,7 +8,7 @@ use crate::Run;
 use draws::source::DrawSource;
 use offers::list::OfferList;
 
-impl<'p, D: DrawSource> Run<'p, D> {
+impl<D: DrawSource> Run<'_, '_, D> {
     // The changes that are possible now, in their order; none unless the run is open.
     #[tactic(auto, using(runs::proofs::Telling::shown_open, runs::proofs::Telling::shown_not_open))]
     pub fn offers(&self) -> OfferList

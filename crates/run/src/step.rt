@@ -1,6 +1,6 @@
 // A step by a scheduler.
 ghost use Rattle.std.specs.Prelude.{◌≡◌, true, [], is_err};
-ghost use Rattle.run.specs.Views.{Kept, plan_for, view_of};
+ghost use Rattle.run.specs.Views.{GoesOn, Kept, plan_for, view_of};
 ghost use Rattle.runs.specs.Runs.{ran_out, step_call};
 ghost use Rattle.runs.specs.declared.Answer.TheVariants.{RanOut};
 
@@ -10,7 +10,7 @@ use rows::refusal::Refusal;
 use runs::{Answer, Standing};
 use schedulers::scheduler::Scheduler;
 
-impl<'p, D: DrawSource> Run<'p, D> {
+impl<D: DrawSource> Run<'_, '_, D> {
     // Ends the run for want of offers. Timers stay; the goal is reached if it is on at some wait of the hold interval.
     fn run_out(&mut self) -> Answer
         ensures answer { result ≡ RanOut }
@@ -30,8 +30,7 @@ impl<'p, D: DrawSource> Run<'p, D> {
     #[tactic(auto, using(runs::proofs::Choosing::step_not_open, runs::proofs::Choosing::step_runs_out, crate::proofs::Chosen::none_listed))]
     pub fn step<S: Scheduler>(&mut self, scheduler: &S) -> Result<Answer, Refusal>
         ensures answer { step_call (plan_for self.old) (S.Scheduler.meaning scheduler.now) (view_of D.DrawSource.coming self.old) ≡ (result, view_of D.DrawSource.coming self.new) }
-        ensures plan_kept { self.new.plan ≡ self.old.plan }
-        ensures book_kept { D.DrawSource.book self.new.source ≡ D.DrawSource.book self.old.source }
+        ensures goes_on { GoesOn D.DrawSource.book self.old self.new }
         ensures refused_unchanged { is_err result ≡ true → self.new ≡ self.old }
     {
         if !self.standing.is_open() {

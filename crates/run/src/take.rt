@@ -3,7 +3,7 @@ ghost use Rattle.std.specs.Prelude.{◌≡◌, ◌≤◌, true, length, is_err, 
 ghost use Rattle.offers.specs.Known.{rows_of};
 ghost use Rattle.region.specs.Viewed.{viewed};
 ghost use Rattle.rows.specs.Sound.{SoundOutcome};
-ghost use Rattle.run.specs.Views.{Allowed, Kept, plan_for, view_of};
+ghost use Rattle.run.specs.Views.{Allowed, GoesOn, Kept, plan_for, view_of};
 ghost use Rattle.runs.specs.Runs.{InBounds, arriving, at_goal, drawing, goal_by, refused, take_call, top};
 ghost use Rattle.runs.specs.Tables.{outcome_of_row};
 ghost use Rattle.runs.specs.declared.Answer.TheVariants.{Met};
@@ -19,7 +19,7 @@ use rows::refusal::Refusal;
 use rows::tables::{ChangeRow, OutcomeRow};
 use runs::{Answer, Standing, State};
 
-impl<'p, D: DrawSource> Run<'p, D> {
+impl<D: DrawSource> Run<'_, '_, D> {
     // The row of a change that may be taken after a wait, or why it may not.
     #[tactic(auto, using(runs::proofs::Taking::take_not_open, runs::proofs::Taking::take_not_of_stage, runs::proofs::Taking::take_outside, runs::proofs::Taking::take_forbidden, runs::proofs::Calls::guard_read))]
     fn allowed(&self, change: u16, wait: u32) -> Result<ChangeRow, Refusal>
@@ -87,20 +87,23 @@ impl<'p, D: DrawSource> Run<'p, D> {
             stage: outcome.stage,
             region,
         };
-        self.standing = judged(&self.plan, &at);
+        let plan = self.plan;
+        self.standing = judged(&plan, &at);
         self.at = at;
     }
 
     // Draws, and makes the change with the outcome that the draw picks.
     fn change(&mut self, change: u16, row: ChangeRow, wait: u32) -> Result<Answer, Refusal>
         requires { Allowed (rows_of self.old.plan) (view_of D.DrawSource.coming self.old) change wait row }
-        ensures answer { drawing (plan_for self.old) (view_of D.DrawSource.coming self.old) change wait (D.DrawSource.coming self.old.source 0) ≡ (result, view_of D.DrawSource.coming self.new) }
-        ensures plan_kept { self.new.plan ≡ self.old.plan }
-        ensures book_kept { D.DrawSource.book self.new.source ≡ D.DrawSource.book self.old.source }
+        ensures answer { drawing (plan_for self.old) (view_of D.DrawSource.coming self.old)
+            change wait (D.DrawSource.coming self.old.source.now 0)
+            ≡ (result, view_of D.DrawSource.coming self.new) }
+        ensures goes_on { GoesOn D.DrawSource.book self.old self.new }
         ensures refused_unchanged { is_err result ≡ true → self.new ≡ self.old }
     {
         let draw = self.source.draw()?;
-        let outcomes = self.plan.tables().outcomes_of(row);
+        let plan = self.plan;
+        let outcomes = plan.tables().outcomes_of(row);
         let place = pick(outcomes, draw).unwrap();
         self.arrive(wait, outcomes[place]);
         Ok(Answer::Taken {
@@ -114,8 +117,7 @@ impl<'p, D: DrawSource> Run<'p, D> {
     #[tactic(auto, using(runs::proofs::Taking::making_draws, runs::proofs::Taking::making_met))]
     pub fn take(&mut self, change: u16, wait: u32) -> Result<Answer, Refusal>
         ensures answer { take_call (plan_for self.old) (view_of D.DrawSource.coming self.old) change wait ≡ (result, view_of D.DrawSource.coming self.new) }
-        ensures plan_kept { self.new.plan ≡ self.old.plan }
-        ensures book_kept { D.DrawSource.book self.new.source ≡ D.DrawSource.book self.old.source }
+        ensures goes_on { GoesOn D.DrawSource.book self.old self.new }
         ensures refused_unchanged { is_err result ≡ true → self.new ≡ self.old }
     {
         let row = self.allowed(change, wait)?;

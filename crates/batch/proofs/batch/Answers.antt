@@ -15,10 +15,10 @@ every_run_of_handed : (h : Handed) (book : Book) → ((j : ℕ) → DrawsFit (bo
 every_run_of_handed h book fits =
     every_run_tells (plan_in (checked h)) book (checked_sound h) fits
 
-pub returns-in-Err-clause-every_run_of_a_batch_tells_a_tick_run : goal.returns-in-Err-clause-every_run_of_a_batch_tells_a_tick_run
-returns-in-Err-clause-every_run_of_a_batch_tells_a_tick_run g c =
-    every_run_of_handed c.args.handed (g.D.DrawSource.book c.args.source) (g.D.DrawSource.book_fits c.args.source)
+pub returns-in_err-admit-clause-every_run_of_a_batch_tells_a_tick_run : goal.returns-in_err-admit-clause-every_run_of_a_batch_tells_a_tick_run
+returns-in_err-admit-clause-every_run_of_a_batch_tells_a_tick_run g c =
+    every_run_of_handed c.args.handed (g.D.DrawSource.book c.args.source.now) (g.D.DrawSource.book_fits c.args.source.now)
 
 pub returns-clause-every_run_of_a_batch_tells_a_tick_run : goal.returns-clause-every_run_of_a_batch_tells_a_tick_run
 returns-clause-every_run_of_a_batch_tells_a_tick_run g c =
-    every_run_of_handed c.args.handed (g.D.DrawSource.book c.args.source) (g.D.DrawSource.book_fits c.args.source)
+    every_run_of_handed c.args.handed (g.D.DrawSource.book c.args.source.now) (g.D.DrawSource.book_fits c.args.source.now)

@@ -12,11 +12,11 @@ use Rattle.batch.proofs.counting.steps_granted.Goals.{After-step}
 -- a step of the run, as its plan has it
 made : (g : given.Over) (c : goal.After-step g) → step_call (plan_for c.args.run.now) (sampled_by c.args.scheduler.now.identifier) (view_of g.D.DrawSource.coming c.loop-granted.run) ≡ (c.step.result, view_of g.D.DrawSource.coming c.step.new.self)
 made g c =
-    ap (λ p. step_call (plan_of p) (sampled_by c.args.scheduler.now.identifier) (view_of g.D.DrawSource.coming c.loop-granted.run)) (sym c.loop-granted.invariant.1) ∙ c.step.ensures.answer
+    ap (λ p. step_call (plan_of p) (sampled_by c.args.scheduler.now.identifier) (view_of g.D.DrawSource.coming c.loop-granted.run)) (sym c.loop-granted.invariant.1.plan) ∙ c.step.ensures.answer
 
 pub loop-granted-init : goal.loop-granted-init
 unfolding stepped
-loop-granted-init g c = (refl, refl, refl)
+loop-granted-init g c = (refl, record { plan = refl; book = refl; lent = refl })
 
 pub returns-then-is_err-clause-stepped : goal.returns-then-is_err-clause-stepped
 returns-then-is_err-clause-stepped g c =
@@ -29,4 +29,6 @@ pub loop-granted-preserved : goal.loop-granted-preserved
 loop-granted-preserved g c =
     let view = view_of g.D.DrawSource.coming in
     let f = sampled_by c.args.scheduler.now.identifier in
-    (stepped_again (plan_for c.args.run.now) f c.loop-granted.granted (view c.args.run.now) (view c.loop-granted.run) (view c.step.new.self) c.step.result c.loop-granted.invariant.0 (made g (goal.at.loop-granted-preserved g c).After-step) (sym c.if-is_err.ensures.value), c.step.ensures.plan_kept ∙ c.loop-granted.invariant.1, c.step.ensures.book_kept ∙ c.loop-granted.invariant.2)
+    let so_far = c.loop-granted.invariant.1 in
+    let then = c.step.ensures.goes_on in
+    (stepped_again (plan_for c.args.run.now) f c.loop-granted.granted (view c.args.run.now) (view c.loop-granted.run) (view c.step.new.self) c.step.result c.loop-granted.invariant.0 (made g (goal.at.loop-granted-preserved g c).After-step) (sym c.if-is_err.ensures.value), record { plan = then.plan ∙ so_far.plan; book = then.book ∙ so_far.book; lent = then.lent ∙ so_far.lent })

@@ -21,4 +21,4 @@ returns-clause-arrived g c =
     let p = rows_of run.plan in
     let made = reset_made p c.args.outcome.resets c.requires.an_outcome.resets c.waited-region.ensures.in_bounds c.reset.ensures.answer ∙ ap (reset (marks (length p.timers) c.args.outcome.resets)) c.waited-region.ensures.later in
     let standing = c.judged-self.ensures ∙ ap (judged (plan_for run) c.args.outcome.stage) made in
-    λ i. record { stage = c.args.outcome.stage; region = made i; standing = standing i; coming = g.D.DrawSource.coming run.source }
+    λ i. record { stage = c.args.outcome.stage; region = made i; standing = standing i; coming = g.D.DrawSource.coming run.source.now }

@@ -21,8 +21,8 @@ invariant_of-result g c =
 
 pub returns-clause-regions_and_ticks_tell_the_same : goal.returns-clause-regions_and_ticks_tell_the_same
 returns-clause-regions_and_ticks_tell_the_same g c =
-    regions_and_ticks_tell_the_same (plan_of c.args.plan) (g.D.DrawSource.coming c.args.source) (can_be_run c.args.plan) (g.D.DrawSource.coming_fits c.args.source)
+    regions_and_ticks_tell_the_same (plan_of c.args.plan) (g.D.DrawSource.coming c.args.source.now) (can_be_run c.args.plan) (g.D.DrawSource.coming_fits c.args.source.now)
 
 pub returns-clause-every_call_keeps_it_in_bounds : goal.returns-clause-every_call_keeps_it_in_bounds
 returns-clause-every_call_keeps_it_in_bounds g c =
-    keeps_in_bounds (plan_of c.args.plan) (g.D.DrawSource.coming c.args.source) (can_be_run c.args.plan)
+    keeps_in_bounds (plan_of c.args.plan) (g.D.DrawSource.coming c.args.source.now) (can_be_run c.args.plan)

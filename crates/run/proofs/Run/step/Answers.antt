@@ -23,4 +23,4 @@ returns-clause-answer g c =
     takes_the_choice (plan_for run) (view_of g.D.DrawSource.coming run) (g.S.Scheduler.meaning c.args.scheduler.now) c.as_slice-offers.result.now c.choose-place.result (c.take.result, view_of g.D.DrawSource.coming c.take.new.self) (sym c.if-not-is_open.ensures) c.as_slice-offers.ensures c.possible_changes-list.ensures.offers c.if-is_empty.ensures c.choose-place.ensures c.take.ensures.answer
 
 pub returns-clause-refused_unchanged : goal.returns-clause-refused_unchanged
-returns-clause-refused_unchanged g c = λ e. c.take.ensures.refused_unchanged e ∙ same_source c.args.self.now c.args.self.now.source _ _ refl
+returns-clause-refused_unchanged g c = λ e. c.take.ensures.refused_unchanged e ∙ same_source c.args.self.now c.args.self.now.source.now _ _ refl
