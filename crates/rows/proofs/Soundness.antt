@@ -20,6 +20,7 @@ use Rattle.rows.specs.declared.tables.ChangeRow.{ChangeRow}
 use Rattle.rows.specs.declared.tables.OutcomeRow.{OutcomeRow}
 use Rattle.rows.specs.declared.tables.GoalRow.{GoalRow}
 use Rattle.rows.specs.Plans.{PlanRows, counts_of, front}
+use Rattle.rows.specs.Refusals.{refusal_no}
 use Rattle.rows.specs.Sections.{count_of, least_of, most_of, section_names}
 use Rattle.rows.specs.Sound.{Fits, Sound, SoundTimer, SoundComparison, SoundStage, SoundChange, SoundOutcome, SoundGoal}
 use Rattle.rows.specs.Verdicts.{Rule, first_broken, fault_at, or_else, refusal_told, record_fault, record_rules, fault_from, first_in, section_fault, rows_fault, count_rules, count_fault, faultless, tables_fault, timer_rules, comparison_rules, stage_rules, change_rules, outcome_rules, goal_rules, no_timer, no_comparison, no_stage, no_change, no_outcome, no_goal}
@@ -36,11 +37,11 @@ passed false e o h = (refl, h)
 kept_from_none : (rules : List Rule) → first_broken rules ≡ None → Kept rules
 kept_from_none [] e = tt
 kept_from_none (rule ∷ rules) e =
-    let h = passed rule.0 rule.1 (first_broken rules) e in (h.0, kept_from_none rules h.1)
+    let h = passed rule.0 (refusal_no rule.1) (first_broken rules) e in (h.0, kept_from_none rules h.1)
 
 none_from_kept : (rules : List Rule) → Kept rules → first_broken rules ≡ None
 none_from_kept [] h = refl
-none_from_kept (rule ∷ rules) h = ap (λ b. cond b (Some rule.1) (first_broken rules)) h.0 ∙ none_from_kept rules h.1
+none_from_kept (rule ∷ rules) h = ap (λ b. cond b (Some (refusal_no rule.1)) (first_broken rules)) h.0 ∙ none_from_kept rules h.1
 
 fault_at_none : (w : Where) (o : Option Refusal) → fault_at w o ≡ None → o ≡ None
 fault_at_none w None h = refl

@@ -3,7 +3,6 @@ use Rattle.std.specs.Prelude.{◌≡◌, ℕ, ◌+◌, ◌*◌, ◌/◌, cond, L
 use Rattle.std.specs.List.{range_with_len}
 use Rattle.rows.specs.declared.fault.Fault.{Fault}
 use Rattle.rows.specs.declared.fault.Where.TheVariants.{File, Section}
-use Rattle.rows.specs.declared.refusal.Refusal.TheVariants.{FileEnds, BytesFollow, CountOffLimits, TableTooSmall}
 use Rattle.rows.specs.declared.section.Counts.{Counts}
 use Rattle.rows.specs.declared.section.SectionName.{SectionName}
 use Rattle.rows.specs.declared.section.SectionName.TheVariants.{Timers, Comparisons, Stages, Changes, Outcomes, Goal}
@@ -14,6 +13,7 @@ use Rattle.rows.specs.declared.tables.ChangeRow.{ChangeRow}
 use Rattle.rows.specs.declared.tables.OutcomeRow.{OutcomeRow}
 use Rattle.rows.specs.declared.tables.GoalRow.{GoalRow}
 use Rattle.rows.specs.Plans.{PlanRows, counts_of, front, past, file_of}
+use Rattle.rows.specs.Refusals.{refusal_no}
 use Rattle.rows.specs.Sections.{section_names, size_of, count_of}
 use Rattle.rows.specs.Sound.{Sound}
 use Rattle.rows.specs.Verdicts.{Rule, first_broken, fault_at, or_else, off_limits, rows_fault}
@@ -100,10 +100,10 @@ plan_in b =
 -- the rules of a section that begins the bytes, and whose table has some room
 abbrev pub layout_rules : SectionName → ℕ → List ℕ → List Rule
 layout_rules s room b =
-    (nat_lt (length b) 2, FileEnds)
-    ∷ (off_limits s (word_at b 0), CountOffLimits)
-    ∷ (nat_lt room (word_at b 0), TableTooSmall)
-    ∷ (nat_lt (length b) (2 + record_bytes s b), FileEnds)
+    (nat_lt (length b) 2, 1)
+    ∷ (off_limits s (word_at b 0), 3)
+    ∷ (nat_lt room (word_at b 0), 7)
+    ∷ (nat_lt (length b) (2 + record_bytes s b), 1)
     ∷ []
 
 -- the first broken rule of such a section
@@ -112,7 +112,7 @@ part_fault s rooms b = fault_at (Section s) (first_broken (layout_rules s (count
 
 -- the first fault in how the bytes are laid out: section by section, then what follows them
 abbrev pub layout_fault : Counts → List SectionName → List ℕ → Option Fault
-layout_fault rooms [] b = cond (nat_lt 0 (length b)) (Some (record { refusal = BytesFollow; at = File })) None
+layout_fault rooms [] b = cond (nat_lt 0 (length b)) (Some (record { refusal = refusal_no 2; at = File })) None
 layout_fault rooms (s ∷ more) b = or_else (part_fault s rooms b) (layout_fault rooms more (after s b))
 
 -- what is wrong with a file that is read into tables of some room, if anything is: the layout first, then the records

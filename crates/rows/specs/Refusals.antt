@@ -1,5 +1,5 @@
 -- The number of each refusal.
-use Rattle.std.specs.Prelude.{ℕ}
+use Rattle.std.specs.Prelude.{ℕ, cond, List, [], ◌∷◌, ◌==◌}
 use Rattle.rows.specs.declared.refusal.Refusal.{Refusal}
 use Rattle.rows.specs.declared.refusal.Refusal.TheVariants.{FileEnds, BytesFollow, CountOffLimits, NotThere, BadWeight, BadField, TableTooSmall, RunNotOpen, ChangeNotOfStage, WaitOutsideHold, GuardForbidsWait, NoDrawToCome, LogFull, BatchOffLimits}
 
@@ -19,3 +19,31 @@ number_of GuardForbidsWait = 11
 number_of NoDrawToCome = 12
 number_of LogFull = 13
 number_of BatchOffLimits = 14
+
+-- every refusal, in the order of their numbers
+abbrev pub refusals : List Refusal
+refusals =
+    FileEnds
+    ∷ BytesFollow
+    ∷ CountOffLimits
+    ∷ NotThere
+    ∷ BadWeight
+    ∷ BadField
+    ∷ TableTooSmall
+    ∷ RunNotOpen
+    ∷ ChangeNotOfStage
+    ∷ WaitOutsideHold
+    ∷ GuardForbidsWait
+    ∷ NoDrawToCome
+    ∷ LogFull
+    ∷ BatchOffLimits
+    ∷ []
+
+-- the first of some refusals that has a number; where none has it, the last refusal of all
+abbrev pub first_with : ℕ → List Refusal → Refusal
+first_with n [] = BatchOffLimits
+first_with n (e ∷ more) = cond (number_of e == n) e (first_with n more)
+
+-- the refusal that has this number
+abbrev pub refusal_no : ℕ → Refusal
+refusal_no n = first_with n refusals

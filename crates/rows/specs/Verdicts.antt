@@ -4,7 +4,6 @@ use Rattle.rows.specs.declared.fault.Fault.{Fault}
 use Rattle.rows.specs.declared.fault.Where.{Where}
 use Rattle.rows.specs.declared.fault.Where.TheVariants.{Section, Record}
 use Rattle.rows.specs.declared.refusal.Refusal.{Refusal}
-use Rattle.rows.specs.declared.refusal.Refusal.TheVariants.{CountOffLimits, NotThere, BadWeight, BadField, TableTooSmall}
 use Rattle.rows.specs.declared.section.Counts.{Counts}
 use Rattle.rows.specs.declared.section.SectionName.{SectionName}
 use Rattle.rows.specs.declared.section.SectionName.TheVariants.{Timers, Comparisons, Stages, Changes, Outcomes, Goal}
@@ -15,17 +14,18 @@ use Rattle.rows.specs.declared.tables.ChangeRow.{ChangeRow}
 use Rattle.rows.specs.declared.tables.OutcomeRow.{OutcomeRow}
 use Rattle.rows.specs.declared.tables.GoalRow.{GoalRow}
 use Rattle.rows.specs.Plans.{PlanRows, counts_of}
+use Rattle.rows.specs.Refusals.{refusal_no}
 use Rattle.rows.specs.Sections.{section_names, least_of, most_of, count_of}
 use Rattle.rows.specs.Sound.{weights_of}
 
--- whether a rule is broken, and the refusal for that
+-- whether a rule is broken, and the number of the refusal for that
 abbrev pub Rule : Type 0
-Rule = Bool × Refusal
+Rule = Bool × ℕ
 
 -- the refusal of the first broken rule
 abbrev pub first_broken : List Rule → Option Refusal
 first_broken [] = None
-first_broken (rule ∷ rules) = cond rule.0 (Some rule.1) (first_broken rules)
+first_broken (rule ∷ rules) = cond rule.0 (Some (refusal_no rule.1)) (first_broken rules)
 
 -- the first of two answers that is there
 abbrev pub or_else : Option Fault → Option Fault → Option Fault
@@ -48,51 +48,51 @@ missing first n count = nat_lt 0 n && nat_lt count (first + n)
 
 -- the rules of a timer
 abbrev pub timer_rules : TimerRow → List Rule
-timer_rules t = ((t.ceiling == 0), BadField) ∷ []
+timer_rules t = ((t.ceiling == 0), 6) ∷ []
 
 -- the rules of a comparison, where the sections have some counts
 abbrev pub comparison_rules : Counts → ComparisonRow → List Rule
 comparison_rules n c =
-    (nat_lt 7 c.kind, BadField)
-    ∷ (not (c.filler == 0), BadField)
-    ∷ (nat_lt c.kind 4 && not (c.second == 0), BadField)
-    ∷ (nat_le n.timers c.first, NotThere)
-    ∷ (nat_le 4 c.kind && nat_le n.timers c.second, NotThere)
+    (nat_lt 7 c.kind, 6)
+    ∷ (not (c.filler == 0), 6)
+    ∷ (nat_lt c.kind 4 && not (c.second == 0), 6)
+    ∷ (nat_le n.timers c.first, 4)
+    ∷ (nat_le 4 c.kind && nat_le n.timers c.second, 4)
     ∷ []
 
 -- the rules of a stage
 abbrev pub stage_rules : Counts → StageRow → List Rule
 stage_rules n s =
-    (nat_lt 3 s.mark, BadField)
-    ∷ (nat_lt 32 s.holds, CountOffLimits)
-    ∷ (nat_lt 128 s.changes, CountOffLimits)
-    ∷ (missing s.first_hold s.holds n.comparisons, NotThere)
-    ∷ (missing s.first_change s.changes n.changes, NotThere)
+    (nat_lt 3 s.mark, 6)
+    ∷ (nat_lt 32 s.holds, 3)
+    ∷ (nat_lt 128 s.changes, 3)
+    ∷ (missing s.first_hold s.holds n.comparisons, 4)
+    ∷ (missing s.first_change s.changes n.changes, 4)
     ∷ []
 
 -- the rules of a change
 abbrev pub change_rules : PlanRows → ChangeRow → List Rule
 change_rules p c =
-    (nat_lt 32 c.guards, CountOffLimits)
-    ∷ ((c.outcomes == 0), CountOffLimits)
-    ∷ (nat_lt 64 c.outcomes, CountOffLimits)
-    ∷ (missing c.first_guard c.guards (length p.comparisons), NotThere)
-    ∷ (missing c.first_outcome c.outcomes (length p.outcomes), NotThere)
-    ∷ (nat_lt 65535 (weights_of p c), BadWeight)
+    (nat_lt 32 c.guards, 3)
+    ∷ ((c.outcomes == 0), 3)
+    ∷ (nat_lt 64 c.outcomes, 3)
+    ∷ (missing c.first_guard c.guards (length p.comparisons), 4)
+    ∷ (missing c.first_outcome c.outcomes (length p.outcomes), 4)
+    ∷ (nat_lt 65535 (weights_of p c), 5)
     ∷ []
 
 -- the rules of an outcome
 abbrev pub outcome_rules : Counts → OutcomeRow → List Rule
 outcome_rules n o =
-    (nat_le n.stages o.stage, NotThere)
-    ∷ (nat_le (2 ^ n.timers) o.resets, NotThere)
-    ∷ ((o.weight == 0), BadWeight)
+    (nat_le n.stages o.stage, 4)
+    ∷ (nat_le (2 ^ n.timers) o.resets, 4)
+    ∷ ((o.weight == 0), 5)
     ∷ []
 
 -- the rules of the goal
 abbrev pub goal_rules : Counts → GoalRow → List Rule
 goal_rules n g =
-    (nat_lt 32 g.comparisons, CountOffLimits) ∷ (missing g.first g.comparisons n.comparisons, NotThere) ∷ []
+    (nat_lt 32 g.comparisons, 3) ∷ (missing g.first g.comparisons n.comparisons, 4) ∷ []
 
 -- what stands where there is no timer
 abbrev pub no_timer : TimerRow
@@ -155,7 +155,7 @@ off_limits s n = nat_lt n (least_of s) || nat_lt (most_of s) n
 
 -- the rules of a count: within the limits of its section, and no more than its table has room for
 abbrev pub room_rules : SectionName → ℕ → ℕ → List Rule
-room_rules s room count = (off_limits s count, CountOffLimits) ∷ (nat_lt room count, TableTooSmall) ∷ []
+room_rules s room count = (off_limits s count, 3) ∷ (nat_lt room count, 7) ∷ []
 
 -- the rules of the count of a section, where the tables have some rooms
 abbrev pub count_rules : Counts → Counts → SectionName → List Rule

@@ -1,6 +1,6 @@
 // Why a call is refused. A refused call answers one of these and alters nothing.
 ghost use Rattle.std.specs.Prelude.{◌≡◌};
-ghost use Rattle.rows.specs.Refusals.{number_of};
+ghost use Rattle.rows.specs.Refusals.{number_of, refusal_no};
 
 use thiserror::Error;
 
@@ -39,7 +39,8 @@ pub enum Refusal {
 impl Refusal {
     // The number that the rules give this refusal. A method and no From, so that a caller says that it wants the number.
     pub fn number(self) -> u8
-        ensures { result ≡ number_of self }
+        ensures value { result ≡ number_of self }
+        ensures its_own_number { refusal_no result ≡ self }
     {
         self as u8
     }
