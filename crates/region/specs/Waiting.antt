@@ -1,8 +1,8 @@
 -- When a wait is refused, and what a wait leads to.
 use Rattle.std.specs.Prelude.{ℕ, zero, suc, ◌+◌, ◌*◌, ◌/◌, ◌%◌, ◌<◌, ◌≤◌, Bool, false, cond, ◌||◌, List, length, Ok, Err, Result, nat_lt, slice_index_or}
 use Rattle.rows.specs.declared.refusal.Refusal.{Refusal}
-use Rattle.rows.specs.declared.refusal.Refusal.TheVariants.{WaitOutsideHold}
 use Rattle.rows.specs.declared.tables.TimerRow.{TimerRow}
+use Rattle.rows.specs.Refusals.{refusal_no}
 use Rattle.theory.specs.Records.{Record, count, timer_no, wait}
 use Rattle.region.specs.declared.value.TimerValue.{TimerValue}
 
@@ -34,7 +34,7 @@ InTime d r = (i : ℕ) → i < length r.timers → count r (timer_no r i) + d �
 
 -- what a wait of d steps answers, and the record after it: one past a ceiling is refused and alters nothing
 abbrev pub waited : List TimerRow → ℕ → Record → Result (Unit {0}) Refusal × Record
-waited ceilings d r = cond (passes ceilings d r) (Err WaitOutsideHold, r) (Ok tt, wait d r)
+waited ceilings d r = cond (passes ceilings d r) (Err (refusal_no 10), r) (Ok tt, wait d r)
 
 -- the row of a timer that stands u steps after zero among k classes
 abbrev pub row_at : ℕ → ℕ → TimerValue

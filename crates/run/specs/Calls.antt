@@ -1,7 +1,7 @@
 -- Calls and entries, read as those of a run over region records.
 use Rattle.std.specs.Prelude.{◌≡◌, ◌<◌, ◌≤◌, List, ◌++◌, map, length, drop, Ok, Err, Result}
 use Rattle.rows.specs.declared.refusal.Refusal.{Refusal}
-use Rattle.rows.specs.declared.refusal.Refusal.TheVariants.{LogFull}
+use Rattle.rows.specs.Refusals.{refusal_no}
 use Rattle.offers.specs.Lists.{listed}
 use Rattle.region.specs.Viewed.{viewed}
 use Rattle.logs.specs.Logs.{entries_of, past_of}
@@ -54,4 +54,4 @@ abbrev pub Replayed : Plan → runs.Draws → List runs.Call → Log Entry → L
 Replayed plan draws calls log log' left (Ok _) =
     (length calls ≤ length (past_of log)) × ((then : runs.Run) × Entered plan (runs.opening plan draws) then calls log log' × (left ≡ then.coming))
 Replayed plan draws calls log log' left (Err e) =
-    (e ≡ LogFull) × (length (past_of log) < length calls) × (log' ≡ log) × (left ≡ draws)
+    (e ≡ refusal_no 13) × (length (past_of log) < length calls) × (log' ≡ log) × (left ≡ draws)
