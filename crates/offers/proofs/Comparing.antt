@@ -1,6 +1,5 @@
 -- What is read of a region and of a row, and the steps of a loop over comparisons.
 use Rattle.std.proofs.Common.{◌≡◌, ℕ, ◌+◌, ◌*◌, ◌<◌, ◌≤◌, Bool, cond, List, map, length, get_or, drop, ap, ◌∙◌, arith}
-use Rattle.std.proofs.lemmas.Grind.{common_steps}
 use Rattle.std.proofs.lemmas.List.{get_or-map, length-map}
 use Rattle.rows.specs.declared.reading.Comparison.{Comparison}
 use Rattle.rows.specs.declared.reading.Subject.TheVariants.{Timer, Lead}
@@ -11,11 +10,7 @@ use Rattle.theory.specs.Records.{Record, count, timer_no}
 use Rattle.runs.specs.Runs.{Span, before, bounded, cut, cuts, says}
 use Rattle.runs.specs.Tables.{comparison_of_row}
 use Rattle.runs.proofs.Allowed.{cut_timer, cut_lead, cuts_more, cuts_all}
-use Rattle.offers.specs.Waits.{comparison_in, relation_in}
-
--- a row's reading says what the row says
-reading_is : (row : ComparisonRow) → comparison_in (reading_of row) ≡ comparison_of_row row
-reading_is row = grind (arith, common_steps)
+use Rattle.runs.specs.Typed.{comparison_in, relation_in}
 
 -- the cut by a comparison of one timer, and by one of a lead
 pub cut_of_timer : (r : Record) (c : Comparison) (i : ℕ) (x : Span) → c.subject ≡ Timer i → cut r (comparison_in c) x ≡ bounded (relation_in c.relation) (count r (timer_no r i)) (2 * r.classes * c.constant) x
@@ -32,7 +27,7 @@ cut_of_lead r c i j x b s e =
 pub next_row : (r : Record) (rows : List ComparisonRow) (i : ℕ) (c : Comparison) (x y : Span) → i < length rows → c ≡ reading_of (get_or rows i no_comparison) → y ≡ cut r (comparison_in c) x → cuts r (drop (i + 1) (map comparison_of_row rows)) y ≡ cuts r (drop i (map comparison_of_row rows)) x
 next_row r rows i c x y h e f =
     let l : i < length (map comparison_of_row rows) = omega (arith, length-map rows comparison_of_row) in
-    let reads : comparison_in c ≡ comparison_of_row (get_or rows i no_comparison) = ap comparison_in e ∙ reading_is (get_or rows i no_comparison) in
+    let reads : comparison_in c ≡ comparison_of_row (get_or rows i no_comparison) = ap comparison_in e in
     let here = get_or-map comparison_of_row rows i no_comparison (comparison_of_row no_comparison) h in
     let more = cuts_more r (map comparison_of_row rows) i (comparison_of_row no_comparison) x l in
     cc

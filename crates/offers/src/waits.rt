@@ -1,10 +1,11 @@
 // The waits, counted in steps, that comparisons allow.
 ghost use Rattle.std.specs.Prelude.{◌≡◌, ◌*◌, ◌≤◌, map};
-ghost use Rattle.offers.specs.Waits.{comparison_in, relation_in, span_of};
+ghost use Rattle.offers.specs.Waits.{span_of};
 ghost use Rattle.region.specs.Viewed.{viewed};
 ghost use Rattle.runs.specs.Runs.{any_in, before, bounded, cut, cuts, from_on, inside, says, upto};
 ghost use Rattle.runs.specs.Tables.{comparison_of_row};
 ghost use Rattle.runs.specs.Telling.{AllowedWaitsAreTrueMoments};
+ghost use Rattle.runs.specs.Typed.{comparison_in, relation_in};
 ghost use Rattle.theory.specs.Records.{count, timer_no};
 
 use region::Region;

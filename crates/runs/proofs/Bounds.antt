@@ -3,8 +3,6 @@ use Rattle.std.proofs.Common.{◌≡◌, ℕ, zero, suc, ◌*◌, ◌<◌, ◌�
 use lib.ListN.{length-replicate}
 use Rattle.std.proofs.lemmas.List.{get_or_past, get_or-replicate}
 use Rattle.std.proofs.lemmas.Bool.{cases_Bool, cases_lt}
-use Rattle.rows.specs.declared.refusal.Refusal.{Refusal}
-use Rattle.rows.specs.declared.refusal.Refusal.TheVariants.{RunNotOpen, NoDrawToCome}
 use Rattle.theory.specs.Settings.{marked, any_marked, cleared}
 use Rattle.theory.specs.Records.{Record, Valid, fresh, timer_no, count, record_of, wait, reset}
 use Rattle.theory.specs.Regions.{AtMost}
@@ -112,7 +110,7 @@ take_keeps_inv plan run c d s h = go (take_cases plan run c d)
     at z e k = subst (λ y. Inv plan y.1) (sym e) k
 
     drawn : Fits plan run c d → goal_by plan run.stage run.region d ≡ false → (o : Option ℕ) → run.coming 0 ≡ o → Inv plan (take_call plan run c d).1
-    drawn f e None j = at (refused NoDrawToCome run) (take_no_draw plan run c d f e j) h
+    drawn f e None j = at (refused 12 run) (take_no_draw plan run c d f e j) h
     drawn f e (Some g) j =
         at _ (take_taken plan run c d g f e j) (arrived_inv plan run c d (picked_by g (change_of plan run.stage c)) s h f)
 
@@ -121,7 +119,7 @@ take_keeps_inv plan run c d s h = go (take_cases plan run c d)
         at _ (take_met plan run c d f e) (inv_from plan (at_goal run d) (wait_in_bounds plan run.stage run.region d (inv_bounds plan run h) f.in_hold) h.a_stage)
     made f (inr e) = drawn f e (run.coming 0) refl
 
-    go : Fits plan run c d ⊎ ((e : Refusal) × (take_call plan run c d ≡ refused e run)) → Inv plan (take_call plan run c d).1
+    go : Fits plan run c d ⊎ ((n : ℕ) × (take_call plan run c d ≡ refused n run)) → Inv plan (take_call plan run c d).1
     go (inl f) = made f (cases_Bool (goal_by plan run.stage run.region d))
     go (inr k) = at (refused k.0 run) k.1 h
 
@@ -132,7 +130,7 @@ step_keeps_inv plan f run s h = go (step_cases plan f run)
     at z e k = subst (λ y. Inv plan y.1) (sym e) k
 
     go : (is_open run.standing ≡ false) ⊎ (((is_open run.standing ≡ true) × (offers_of plan run ≡ [])) ⊎ HasOffers plan run) → Inv plan (step_call plan f run).1
-    go (inl e) = at (refused RunNotOpen run) (step_not_open plan f run e) h
+    go (inl e) = at (refused 8 run) (step_not_open plan f run e) h
     go (inr (inl k)) =
         at _ (step_runs_out plan f run k.0 k.1) (inv_from plan (ran_out plan run) (inv_bounds plan run h) h.a_stage)
     go (inr (inr k)) =

@@ -2,7 +2,6 @@
 use Rattle.std.proofs.Common.{◌≡◌, ℕ, ◌≤◌, true, false, cond, ◌⊎◌, List, [], ◌∷◌, length, get_or, Some, None, Ok, Option, sym, refl, ap, ◌∙◌, subst, ap₂, inl, inr, arith}
 use Rattle.std.proofs.ByRecursion.{All-get_or}
 use Rattle.std.proofs.lemmas.Bool.{cases_Bool, both_ways}
-use Rattle.rows.specs.declared.refusal.Refusal.TheVariants.{RunNotOpen, NoDrawToCome}
 use Rattle.runs.specs.Plans.{Plan, change_of}
 use Rattle.runs.specs.Runs.{top, upto, blank_offer, offers_at, goal_by, Run, is_open, Outturn, refused, ran_out, stepping, step_call, take_call, Scheduler, InRange, offers_of, chosen, chosen_wait}
 use Rattle.runs.specs.Telling.{HasOffers, goal_by_chosen, StepAnswers, Alike, ChooseAlike, AStepChoosesAsItsSchedulerMeans}
@@ -13,17 +12,17 @@ use Rattle.runs.proofs.Allowed.{within_cuts}
 use Rattle.runs.proofs.Offered.{OfferOfStage, offers_of_stage, offers_in_order, offer_within}
 use Rattle.runs.proofs.Taking.{Fits, open_is, not_open_is, take_met, take_no_draw, take_taken}
 
-pub step_call_is : (plan : Plan) (f : Scheduler) (run : Run) → step_call plan f run ≡ cond (is_open run.standing) (stepping plan f run (offers_of plan run)) (refused RunNotOpen run)
+pub step_call_is : (plan : Plan) (f : Scheduler) (run : Run) → step_call plan f run ≡ cond (is_open run.standing) (stepping plan f run (offers_of plan run)) (refused 8 run)
 unfolding step_call
 step_call_is plan f run = refl
 
-pub step_not_open : (plan : Plan) (f : Scheduler) (run : Run) → is_open run.standing ≡ false → step_call plan f run ≡ refused RunNotOpen run
+pub step_not_open : (plan : Plan) (f : Scheduler) (run : Run) → is_open run.standing ≡ false → step_call plan f run ≡ refused 8 run
 step_not_open plan f run e =
-    step_call_is plan f run ∙ ap (λ b. cond b (stepping plan f run (offers_of plan run)) (refused RunNotOpen run)) e
+    step_call_is plan f run ∙ ap (λ b. cond b (stepping plan f run (offers_of plan run)) (refused 8 run)) e
 
 pub step_open : (plan : Plan) (f : Scheduler) (run : Run) → is_open run.standing ≡ true → step_call plan f run ≡ stepping plan f run (offers_of plan run)
 step_open plan f run e =
-    step_call_is plan f run ∙ ap (λ b. cond b (stepping plan f run (offers_of plan run)) (refused RunNotOpen run)) e
+    step_call_is plan f run ∙ ap (λ b. cond b (stepping plan f run (offers_of plan run)) (refused 8 run)) e
 
 -- an open run without offers runs out
 pub step_runs_out : (plan : Plan) (f : Scheduler) (run : Run) → is_open run.standing ≡ true → offers_of plan run ≡ [] → step_call plan f run ≡ (Ok RanOut, ran_out plan run)
@@ -70,7 +69,7 @@ step_answers plan f run k = go (step_cases plan f run)
 
     drawn : HasOffers plan run → (o : Option ℕ) → run.coming 0 ≡ o → goal_by_chosen plan f run ≡ false → StepAnswers plan f run (step_call plan f run).0
     drawn h None n e =
-        at (refused NoDrawToCome run) (step_takes plan f run h ∙ take_no_draw plan run (chosen plan f run) (chosen_wait plan f run) (choice_fits plan f run k h) e n) (inr (refl, h, e, n))
+        at (refused 12 run) (step_takes plan f run h ∙ take_no_draw plan run (chosen plan f run) (chosen_wait plan f run) (choice_fits plan f run k h) e n) (inr (refl, h, e, n))
     drawn h (Some g) n e =
         at _ (step_takes plan f run h ∙ take_taken plan run (chosen plan f run) (chosen_wait plan f run) g (choice_fits plan f run k h) e n) (h, e, refl, refl)
 
@@ -81,7 +80,7 @@ step_answers plan f run k = go (step_cases plan f run)
 
     go : (is_open run.standing ≡ false) ⊎ (((is_open run.standing ≡ true) × (offers_of plan run ≡ [])) ⊎ HasOffers plan run) → StepAnswers plan f run (step_call plan f run).0
     go (inl e) =
-        at (refused RunNotOpen run) (step_not_open plan f run e) (inl (refl, not_open_is run.standing e))
+        at (refused 8 run) (step_not_open plan f run e) (inl (refl, not_open_is run.standing e))
     go (inr (inl h)) =
         at (Ok RanOut, ran_out plan run) (step_runs_out plan f run h.0 h.1) (open_is run.standing h.0, h.1)
     go (inr (inr h)) = made h (cases_Bool (goal_by_chosen plan f run))

@@ -13,14 +13,17 @@ use Rattle.rows.specs.declared.tables.OutcomeRow.{OutcomeRow}
 use Rattle.rows.specs.declared.tables.StageRow.{StageRow}
 use Rattle.rows.specs.declared.tables.TimerRow.{TimerRow}
 use Rattle.rows.specs.declared.section.SectionName.TheVariants.{Timers, Stages}
+use Rattle.rows.specs.declared.reading.Subject.TheVariants.{Timer, Lead}
 use Rattle.rows.specs.Plans.{PlanRows}
+use Rattle.rows.specs.Readings.{relation_of}
 use Rattle.rows.specs.Sound.{SoundTimer, SoundComparison, SoundStage, SoundChange, SoundOutcome}
 use Rattle.rows.specs.Sound.{Sound as SoundRows}
 use Rattle.rows.specs.Verdicts.{faultless}
 use Rattle.rows.proofs.Soundness.{sound_from_faultless}
-use Rattle.theory.specs.Regions.{NamesBelow, timer_against, lead_against}
+use Rattle.theory.specs.Regions.{NamesBelow}
 use Rattle.runs.specs.Plans.{weights, NamedIn, Sound, SoundPlanStage, SoundPlanChange, SoundPlanOutcome}
-use Rattle.runs.specs.Tables.{relation_of, comparison_of_row, listed, comparisons_of, outcome_of_row, change_of_row, stage_of_row, goal_of, plan_in}
+use Rattle.runs.specs.Tables.{comparison_of_row, listed, comparisons_of, outcome_of_row, change_of_row, stage_of_row, goal_of, plan_in}
+use Rattle.runs.specs.Typed.{comparison_in}
 use Rattle.runs.proofs.Plans.{weights_nil, weights_cons}
 
 -- as many ceilings as timer rows
@@ -33,7 +36,7 @@ all_listed P first n rows h = All-take P n (drop first rows) (All-drop P first r
 
 comparison_named : (p : PlanRows) (c : ComparisonRow) → SoundComparison p c → NamesBelow (length (plan_in p).ceilings) (comparison_of_row c)
 comparison_named p c h =
-    cond_both (ltb c.kind 4) (timer_against c.first (relation_of c.kind) c.constant) (lead_against c.first c.second (relation_of c.kind) c.constant) (NamesBelow (length (plan_in p).ceilings)) (λ e. omega (arith, ceilings_counted p, h.timer)) (λ e. (omega (arith, ceilings_counted p, h.timer), omega (arith, ceilings_counted p, h.other (ltb-false c.kind 4 e))))
+    cond_both (ltb c.kind 4) (Timer c.first) (Lead c.first c.second) (λ s. NamesBelow (length (plan_in p).ceilings) (comparison_in (record { subject = s; relation = relation_of c.kind; constant = c.constant }))) (λ e. omega (arith, ceilings_counted p, h.timer)) (λ e. (omega (arith, ceilings_counted p, h.timer), omega (arith, ceilings_counted p, h.other (ltb-false c.kind 4 e))))
 
 -- the comparisons of any list name timers of the plan
 comparisons_named : (p : PlanRows) → SoundRows p → (first n : ℕ) → NamedIn (plan_in p) (comparisons_of p first n)

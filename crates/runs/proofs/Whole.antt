@@ -2,8 +2,7 @@
 use Rattle.std.proofs.Common.{◌≡◌, ℕ, zero, suc, ◌+◌, ◌*◌, ◌%◌, ◌^◌, ◌<◌, ◌≤◌, Bool, true, false, ◌⊎◌, List, [], ◌∷◌, ◌++◌, length, get_or, Some, None, Ok, Err, Option, sym, refl, ap, ◌∙◌, subst, inl, inr, arith, pow_pos}
 use native.Mathlib.Nat.{pow-succ', mod_self}
 use Rattle.std.proofs.lemmas.Bool.{cases_Bool, both_ways}
-use Rattle.rows.specs.declared.refusal.Refusal.{Refusal}
-use Rattle.rows.specs.declared.refusal.Refusal.TheVariants.{RunNotOpen, NoDrawToCome}
+use Rattle.rows.specs.Refusals.{refusal_no}
 use Rattle.theory.specs.Settings.{later, steps, cleared}
 use Rattle.theory.specs.Records.{record_of}
 use Rattle.theory.proofs.Waits.{steps_zero, ticks_are_a_wait}
@@ -140,7 +139,7 @@ fit_told plan D g now coming call c d calls s hg hD z e m fit q nm h more =
 
         drawn : goal_by plan i run.region w ≡ false → (o : Option ℕ) → coming 0 ≡ o → TellsSome plan D now run (call ∷ calls)
         drawn off None j =
-            add_none plan D now run call (answered (Err NoDrawToCome)) calls (q' ∙ ap replied (take_no_draw plan run c w fits off j)) (agrees D now coming) (offers_right plan D now coming s hD z) (λ ms x. (refl, x)) (more now coming z half fit)
+            add_none plan D now run call (answered (Err (refusal_no 12))) calls (q' ∙ ap replied (take_no_draw plan run c w fits off j)) (agrees D now coming) (offers_right plan D now coming s hD z) (λ ms x. (refl, x)) (more now coming z half fit)
         drawn off (Some b) j =
             add_event plan D now run call (Taken c w (change.first + n)) (run_of D y (rest_of coming)) (go_changing t c b n) y calls (q' ∙ ap replied (changes_made plan D now t c b n y coming s hD z happens j)) (agrees D now coming) (offers_right plan D now coming s hD z) happens (refl, nm, refl, j, ticks_are_a_wait D now.ticks hD t) (j, λ x. refl) (more y (rest_of coming) (changes_sized plan D now t c b n y z happens) (cleared_keeps_multiples g o.resets (later t now.ticks) (later_keeps_multiples g k.0 now.ticks half)) (λ x. fit (suc x)))
           where
@@ -175,10 +174,10 @@ take_told plan D g now coming call c d calls s hg hD z e m fit q nm more =
     run : Run
     run = run_of D now coming
 
-    go : Fits plan run c d ⊎ ((x : Refusal) × (take_call plan run c d ≡ refused x run)) → TellsSome plan D now run (call ∷ calls)
+    go : Fits plan run c d ⊎ ((n : ℕ) × (take_call plan run c d ≡ refused n run)) → TellsSome plan D now run (call ∷ calls)
     go (inl h) = fit_told plan D g now coming call c d calls s hg hD z e m fit q nm h more
     go (inr h) =
-        add_none plan D now run call (answered (Err h.0)) calls (q ∙ ap replied h.1) (agrees D now coming) (offers_right plan D now coming s hD z) (λ ms x. (refl, x)) (more now coming z (multiples_of_factor 2 g now.ticks m) fit)
+        add_none plan D now run call (answered (Err (refusal_no h.0))) calls (q ∙ ap replied h.1) (agrees D now coming) (offers_right plan D now coming s hD z) (λ ms x. (refl, x)) (more now coming z (multiples_of_factor 2 g now.ticks m) fit)
 
 -- a step
 step_told : (plan : Plan) (D g : ℕ) (now : Ticking) (coming : Draws) (f : Scheduler) (calls : List Call) → Sound plan → 1 ≤ g → 1 ≤ D → Sized plan now → D % (2 * g) ≡ 0 → Multiples (2 * g) now.ticks → DrawsFit coming → Later plan D g calls → TellsSome plan D now (run_of D now coming) (Step f ∷ calls)
@@ -218,7 +217,7 @@ step_told plan D g now coming f calls s hg hD z e m fit more = go (step_cases pl
 
     go : (is_open run.standing ≡ false) ⊎ (((is_open run.standing ≡ true) × (offers_of plan run ≡ [])) ⊎ HasOffers plan run) → TellsSome plan D now run (Step f ∷ calls)
     go (inl j) =
-        add_none plan D now run (Step f) (answered (Err RunNotOpen)) calls (ap replied (step_not_open plan f run j)) (agrees D now coming) (offers_right plan D now coming s hD z) (λ ms x. (refl, x)) (more now coming z half fit)
+        add_none plan D now run (Step f) (answered (Err (refusal_no 8))) calls (ap replied (step_not_open plan f run j)) (agrees D now coming) (offers_right plan D now coming s hD z) (λ ms x. (refl, x)) (more now coming z half fit)
     go (inr (inl h)) = runs_out h
     go (inr (inr h)) =
         take_told plan D g now coming (Step f) (chosen plan f run) (chosen_wait plan f run) calls s hg hD z e m fit (ap replied (step_takes plan f run h)) refl more

@@ -1,7 +1,6 @@
 -- The worked examples come out as stated.
 use Rattle.std.proofs.Common.{◌≡◌, true, false, [], ◌∷◌, Ok, Err, refl, arith}
-use Rattle.rows.specs.declared.refusal.Refusal.TheVariants.{RunNotOpen, ChangeNotOfStage, WaitOutsideHold, GuardForbidsWait}
-use Rattle.rows.specs.Refusals.{number_of}
+use Rattle.rows.specs.Refusals.{refusal_no}
 use Rattle.rows.specs.Verdicts.{faultless, first_in, fault_from, record_fault}
 use Rattle.theory.specs.Settings.{total, marked, unmarked, any_marked}
 use Rattle.theory.specs.Records.{wait, reset, ranked, live}
@@ -28,9 +27,9 @@ a_reset : reset (false ∷ true ∷ []) (wait 1 (all_zero 2)) ≡ record { whole
 unfolding wait reset any_marked marked total live ranked unmarked
 a_reset = refl
 
-nothing_happens : (f g : Scheduler) (draws : Draws) → ((step_call blank_plan f (opening blank_plan draws)).0 ≡ Ok RanOut) × ((step_call blank_plan f (opening blank_plan draws)).1.standing ≡ Stuck) × ((step_call blank_plan g (step_call blank_plan f (opening blank_plan draws)).1).0 ≡ Err RunNotOpen) × (number_of RunNotOpen ≡ 8)
+nothing_happens : (f g : Scheduler) (draws : Draws) → ((step_call blank_plan f (opening blank_plan draws)).0 ≡ Ok RanOut) × ((step_call blank_plan f (opening blank_plan draws)).1.standing ≡ Stuck) × ((step_call blank_plan g (step_call blank_plan f (opening blank_plan draws)).1).0 ≡ Err (refusal_no 8))
 unfolding step_call goal_by top hold_span ceiling_wait room cuts cut offers_from
-nothing_happens f g draws = (refl, refl, refl, refl)
+nothing_happens f g draws = (refl, refl, refl)
 
 first_offers : (draws : Draws) → shown example_plan (opening example_plan draws) ≡ record { change = 0; lowest = 4; highest = 6 } ∷ []
 unfolding shown goal_by offers_from top hold_span ceiling_wait room cuts cut
@@ -40,15 +39,15 @@ to_the_goal : ((take_call example_plan (opening example_plan (drawn (3221225472 
 unfolding take_call making goal_by picked weights top hold_span ceiling_wait room cuts cut wait reset any_marked marked total live ranked unmarked
 to_the_goal = (refl, refl, refl)
 
-by_the_guard : (draws : Draws) → (take_call example_plan (opening example_plan draws) 0 3).0 ≡ Err GuardForbidsWait
+by_the_guard : (draws : Draws) → (take_call example_plan (opening example_plan draws) 0 3).0 ≡ Err (refusal_no 11)
 unfolding take_call making goal_by top hold_span ceiling_wait room cuts cut
 by_the_guard draws = refl
 
-by_the_hold : (draws : Draws) → (take_call example_plan (opening example_plan draws) 0 7).0 ≡ Err WaitOutsideHold
+by_the_hold : (draws : Draws) → (take_call example_plan (opening example_plan draws) 0 7).0 ≡ Err (refusal_no 10)
 unfolding take_call making goal_by top hold_span ceiling_wait room cuts cut
 by_the_hold draws = refl
 
-by_the_stage : (draws : Draws) → (take_call example_plan (opening example_plan draws) 1 4).0 ≡ Err ChangeNotOfStage
+by_the_stage : (draws : Draws) → (take_call example_plan (opening example_plan draws) 1 4).0 ≡ Err (refusal_no 9)
 unfolding take_call making goal_by top hold_span ceiling_wait room cuts cut
 by_the_stage draws = refl
 
@@ -70,9 +69,10 @@ the_rules_give_the_worked_examples =
       offers_at_opening = first_offers;
       tickets_of_draws_one_apart = (refl, refl);
       a_take_to_the_goal = to_the_goal;
-      refused_by_the_guard = λ draws. (by_the_guard draws, refl);
-      refused_by_the_hold = λ draws. (by_the_hold draws, refl);
-      refused_by_the_stage = λ draws. (by_the_stage draws, refl);
+      refused_by_the_guard = by_the_guard;
+      refused_by_the_hold = by_the_hold;
+      refused_by_the_stage = by_the_stage;
       three_takes = three_takes;
       met_on_the_way = met_between;
+      answers_by_number = (refl, refl, refl, refl, refl, refl);
     }

@@ -1,10 +1,11 @@
 -- A run over region records: what may happen next, and what each call answers and leaves.
-use Rattle.std.specs.Prelude.{◌≡◌, ℕ, suc, ◌+◌, ◌-◌, ◌*◌, ◌<◌, ◌≤◌, min, max, Bool, true, false, cond, ◌&&◌, List, [], ◌∷◌, length, get_or, replicate, Some, None, Ok, Err, Option, Result, nat_le, nat_lt, slice_index, slice_index_or}
+use Rattle.std.specs.Prelude.{◌≡◌, ℕ, suc, ◌+◌, ◌-◌, ◌*◌, ◌<◌, ◌≤◌, min, max, Bool, true, cond, ◌&&◌, List, [], ◌∷◌, length, get_or, replicate, Some, None, Ok, Err, Option, Result, nat_le, nat_lt, slice_index, slice_index_or, ◌==◌}
 use Rattle.std.specs.List.{AllByRecursion}
 use Rattle.rows.specs.declared.refusal.Refusal.{Refusal}
-use Rattle.rows.specs.declared.refusal.Refusal.TheVariants.{RunNotOpen, ChangeNotOfStage, WaitOutsideHold, GuardForbidsWait, NoDrawToCome}
+use Rattle.rows.specs.Refusals.{refusal_no}
 use Rattle.theory.specs.Records.{Record, Valid, fresh, timer_no, count, wait, reset}
 use Rattle.theory.specs.Regions.{Relation, AtLeast, Above, AtMost, Below, Comparison, timer_against, lead_against}
+use Rattle.runs.specs.Cases.{standing_number}
 use Rattle.runs.specs.Plans.{Plan, Change, Outcome, blank_outcome, stage_of, change_of, weights}
 use Rattle.runs.specs.Ticks.{ticket}
 use Rattle.runs.specs.declared.Offer.{Offer}
@@ -133,10 +134,7 @@ pub record Run : Type 0 where
 
 -- whether a run may go on
 abbrev pub is_open : Standing → Bool
-is_open Open = true
-is_open Reached = false
-is_open Failed = false
-is_open Stuck = false
+is_open s = standing_number s == 0
 
 -- whether the change at the place c is one of stage i
 abbrev pub is_of_stage : Plan → ℕ → ℕ → Bool
@@ -146,9 +144,13 @@ is_of_stage plan i c = nat_le (stage_of plan i).first c && nat_lt c ((stage_of p
 abbrev pub Outturn : Type 0
 Outturn = Result Answer Refusal × Run
 
--- a refused call alters nothing
-abbrev pub refused : Refusal → Run → Outturn
-refused refusal run = (Err refusal, run)
+-- a call that is refused with this number alters nothing
+abbrev pub refused : ℕ → Run → Outturn
+refused n run = (Err (refusal_no n), run)
+
+-- a call that goes on to this if it passes a test, and is else refused with this number
+abbrev pub tested : Bool → ℕ → Run → Outturn → Outturn
+tested passes n run then = cond passes then (refused n run)
 
 -- the place of the outcome that the draw g picks among those of a change
 abbrev pub picked_by : ℕ → Change → ℕ
@@ -171,7 +173,7 @@ arrived plan run d o =
 
 -- a take that needs the next draw: refused if none is to come, else the draw picks the outcome
 abbrev pub drawing : Plan → Run → ℕ → ℕ → Option ℕ → Outturn
-drawing plan run c d None = refused NoDrawToCome run
+drawing plan run c d None = refused 12 run
 drawing plan run c d (Some g) =
     let change : Change = change_of plan run.stage c in
     (Ok (Taken c d (change.first + picked_by g change)), arrived plan run d (slice_index_or change.outcomes (picked_by g change) blank_outcome))
@@ -190,10 +192,14 @@ making plan run c d =
 abbrev pub waits_for : Plan → Run → ℕ → Span
 waits_for plan run c = guard_span run.region (top plan run.stage run.region) (change_of plan run.stage c).guard
 
--- the take of the change at the place c after the wait d: refused where the run is not open, the change not of the stage, the wait outside the hold interval or not allowed by the guard
+-- the take of the change at the place c after the wait d: the run must be open, the change of the stage, the wait in the hold interval and allowed by the guard, tested in this order
 unfoldable pub take_call : Plan → Run → ℕ → ℕ → Outturn
 take_call plan run c d =
-    cond (is_open run.standing) (cond (is_of_stage plan run.stage c) (cond (nat_le d (top plan run.stage run.region)) (cond (inside d (waits_for plan run c)) (making plan run c d) (refused GuardForbidsWait run)) (refused WaitOutsideHold run)) (refused ChangeNotOfStage run)) (refused RunNotOpen run)
+    tested (is_open run.standing) 8 run
+    (tested (is_of_stage plan run.stage c) 9 run
+    (tested (nat_le d (top plan run.stage run.region)) 10 run
+    (tested (inside d (waits_for plan run c)) 11 run
+    (making plan run c d))))
 
 -- what a scheduler means: from the stage, the region record and the offers, a place in the list and a wait
 abbrev pub Scheduler : Type 0
@@ -228,7 +234,7 @@ stepping plan f run (o ∷ os) = take_call plan run (chosen plan f run) (chosen_
 
 -- the step by a scheduler
 unfoldable pub step_call : Plan → Scheduler → Run → Outturn
-step_call plan f run = cond (is_open run.standing) (stepping plan f run (offers_of plan run)) (refused RunNotOpen run)
+step_call plan f run = tested (is_open run.standing) 8 run (stepping plan f run (offers_of plan run))
 
 -- the calls of a run: a step by a scheduler, a take of a change after a wait, the offers, and how it stands
 pub data Call : Type 0 where

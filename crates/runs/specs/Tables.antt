@@ -1,5 +1,5 @@
 -- The plan that a plan's tables hold, every list resolved to the rows that it names.
-use Rattle.std.specs.Prelude.{ℕ, ◌%◌, cond, ◌||◌, List, [], ◌∷◌, map, length, take, drop, ◌==◌, nat_lt}
+use Rattle.std.specs.Prelude.{ℕ, List, [], ◌∷◌, map, length, take, drop}
 use Rattle.region.specs.Resetting.{marks}
 use Rattle.rows.specs.declared.tables.ChangeRow.{ChangeRow}
 use Rattle.rows.specs.declared.tables.ComparisonRow.{ComparisonRow}
@@ -7,17 +7,14 @@ use Rattle.rows.specs.declared.tables.GoalRow.{GoalRow}
 use Rattle.rows.specs.declared.tables.OutcomeRow.{OutcomeRow}
 use Rattle.rows.specs.declared.tables.StageRow.{StageRow}
 use Rattle.rows.specs.Plans.{PlanRows}
-use Rattle.theory.specs.Regions.{Relation, AtLeast, Above, AtMost, Below, Comparison, timer_against, lead_against}
+use Rattle.rows.specs.Readings.{mark_of, reading_of}
+use Rattle.theory.specs.Regions.{Comparison}
 use Rattle.runs.specs.Plans.{Outcome, Change, Stage, Plan}
+use Rattle.runs.specs.Typed.{comparison_in, counts_as_goal, is_avoided}
 
--- the relation of a comparison's kind
-abbrev pub relation_of : ℕ → Relation
-relation_of kind = cond (kind % 4 == 0) AtLeast (cond (kind % 4 == 1) Above (cond (kind % 4 == 2) AtMost Below))
-
--- the comparison of a row: kinds below 4 are of one timer, the others of a lead
+-- the comparison that a row reads as
 abbrev pub comparison_of_row : ComparisonRow → Comparison
-comparison_of_row c =
-    cond (nat_lt c.kind 4) (timer_against c.first (relation_of c.kind) c.constant) (lead_against c.first c.second (relation_of c.kind) c.constant)
+comparison_of_row c = comparison_in (reading_of c)
 
 -- the rows that a list names
 abbrev pub listed : {X : Type 0} → ℕ → ℕ → List X → List X
@@ -36,10 +33,16 @@ abbrev pub change_of_row : PlanRows → ChangeRow → Change
 change_of_row p c =
     record { guard = comparisons_of p c.first_guard c.guards; first = c.first_outcome; outcomes = map (outcome_of_row p) (listed c.first_outcome c.outcomes p.outcomes) }
 
--- a stage, with its hold and its changes: marks 1 and 3 are goals, 2 and 3 are to be avoided
+-- a stage: what its mark makes of it, its hold and its changes
 abbrev pub stage_of_row : PlanRows → StageRow → Stage
 stage_of_row p s =
-    record { goal = s.mark == 1 || (s.mark == 3); avoid = s.mark == 2 || (s.mark == 3); hold = comparisons_of p s.first_hold s.holds; first = s.first_change; changes = map (change_of_row p) (listed s.first_change s.changes p.changes) }
+    record {
+      goal = counts_as_goal (mark_of s.mark);
+      avoid = is_avoided (mark_of s.mark);
+      hold = comparisons_of p s.first_hold s.holds;
+      first = s.first_change;
+      changes = map (change_of_row p) (listed s.first_change s.changes p.changes);
+    }
 
 -- the comparisons of the goal: those of the first row of its section
 abbrev pub goal_of : PlanRows → List GoalRow → List Comparison

@@ -2,7 +2,7 @@
 use Rattle.std.specs.Prelude.{◌≡◌, ℕ, ◌+◌, ◌^◌, ◌<◌, ◌≤◌, Bool, true, false, ◌⊎◌, ◌↔◌, List, [], ◌∷◌, length, Some, None, Ok, Err, Result, ◌≢◌, slice_index_or}
 use Rattle.std.specs.List.{AllByRecursion}
 use Rattle.rows.specs.declared.refusal.Refusal.{Refusal}
-use Rattle.rows.specs.declared.refusal.Refusal.TheVariants.{RunNotOpen, NoDrawToCome}
+use Rattle.rows.specs.Refusals.{refusal_no}
 use Rattle.theory.specs.Settings.{later, reach}
 use Rattle.theory.specs.Records.{record_of, record_in, wait}
 use Rattle.theory.specs.Regions.{Comparison, NamesBelow}
@@ -149,7 +149,8 @@ StepAnswers plan f run (Ok (Taken c d n)) =
 StepAnswers plan f run (Ok (Met d)) = HasOffers plan run × (goal_by_chosen plan f run ≡ true) × (d ≡ chosen_wait plan f run)
 StepAnswers plan f run (Ok RanOut) = (run.standing ≡ Open) × (offers_of plan run ≡ [])
 StepAnswers plan f run (Err e) =
-    ((e ≡ RunNotOpen) × (run.standing ≢ Open)) ⊎ ((e ≡ NoDrawToCome) × HasOffers plan run × (goal_by_chosen plan f run ≡ false) × (run.coming 0 ≡ None))
+    ((e ≡ refusal_no 8) × (run.standing ≢ Open))
+    ⊎ ((e ≡ refusal_no 12) × HasOffers plan run × (goal_by_chosen plan f run ≡ false) × (run.coming 0 ≡ None))
 
 -- two granted steps chose alike: the same change and wait, or the same wait to the goal, or both ran out
 abbrev pub Alike : Answer → Answer → Type 0

@@ -2,7 +2,8 @@ use Rattle.std.proofs.Common.{◌≡◌, ◌+◌, ◌*◌, true, false, sym, ◌
 use Rattle.region.specs.Viewed.{viewed}
 use Rattle.theory.specs.Records.{count, timer_no}
 use Rattle.runs.specs.Runs.{says}
-use Rattle.offers.specs.Waits.{relation_in, span_of}
+use Rattle.runs.specs.Typed.{relation_in}
+use Rattle.offers.specs.Waits.{span_of}
 use Rattle.offers.proofs.Comparing.{cut_of_lead, cut_of_timer}
 use Rattle.offers.proofs.waits.cut.Goals as goal
 use Rattle.offers.proofs.waits.cut.Goals.{After-says}
