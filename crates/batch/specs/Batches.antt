@@ -1,8 +1,9 @@
 -- What a batch counts, and when it is refused.
 use Rattle.std.specs.Prelude.{◌≡◌, ℕ, zero, suc, ◌+◌, ◌-◌, min, Bool, cond, ◌&&◌, List, [], ◌∷◌, ◌++◌, length, drop, is_ok, Some, None, Ok, Err, fold, Option, Result, ◌==◌, nat_le}
 use Rattle.rows.specs.declared.refusal.Refusal.{Refusal}
-use Rattle.rows.specs.declared.refusal.Refusal.TheVariants.{BatchOffLimits, LogFull}
+use Rattle.rows.specs.Refusals.{refusal_no}
 use Rattle.logs.specs.Logs.{entries_of, past_of}
+use Rattle.runs.specs.Cases.{standing_number}
 use Rattle.runs.specs.Plans.{Plan}
 use Rattle.runs.specs.Runs.{Draws, Run, Scheduler, opening, step_call}
 use Rattle.logs.specs.declared.Log.{Log}
@@ -27,16 +28,9 @@ stepped plan f (suc n) run =
 abbrev pub run_from : Plan → Book → Scheduler → ℕ → ℕ → Run × ℕ
 run_from plan book f n j = stepped plan f n (opening plan (book j))
 
--- a number for each way to stand
-abbrev pub place : Standing → ℕ
-place Open = 0
-place Reached = 1
-place Failed = 2
-place Stuck = 3
-
 -- a count of the runs that stand in one way, after a run that stands in some way
 abbrev pub counting : Standing → Standing → ℕ → ℕ
-counting way stands n = cond (place way == place stands) (n + 1) n
+counting way stands n = cond (standing_number way == standing_number stands) (n + 1) n
 
 -- the row of an identifier after one more run, which stands so; an open run is unfinished
 abbrev pub counted : Standing → BatchRow → BatchRow
@@ -93,7 +87,8 @@ within ids limits =
 
 -- why a batch is refused, if it is: a number off its limits, or else too little room for its rows
 abbrev pub refusal_of : ℕ → Limits → ℕ → Option Refusal
-refusal_of ids limits room = cond (within ids limits) (cond (nat_le ids room) None (Some LogFull)) (Some BatchOffLimits)
+refusal_of ids limits room =
+    cond (within ids limits) (cond (nat_le ids room) None (Some (refusal_no 13))) (Some (refusal_no 14))
 
 -- rows join a log's entries, in their order; the rows past them stay
 pub record Joined (new : List BatchRow) (log log' : Log BatchRow) : Type 0 where

@@ -4,7 +4,7 @@ ghost use Rattle.offers.specs.Known.{rows_of};
 ghost use Rattle.region.specs.Viewed.{viewed};
 ghost use Rattle.rows.specs.Sound.{SoundOutcome};
 ghost use Rattle.run.specs.Views.{Allowed, GoesOn, Kept, plan_for, view_of};
-ghost use Rattle.runs.specs.Runs.{InBounds, arriving, at_goal, drawing, goal_by, refused, take_call, top};
+ghost use Rattle.runs.specs.Runs.{InBounds, arriving, at_goal, drawing, goal_by, take_call, top};
 ghost use Rattle.runs.specs.Tables.{outcome_of_row};
 ghost use Rattle.runs.specs.declared.Answer.TheVariants.{Met};
 ghost use Rattle.theory.specs.Records.{wait as wait_of};
@@ -23,7 +23,10 @@ impl<D: DrawSource> Run<'_, '_, D> {
     // The row of a change that may be taken after a wait, or why it may not.
     #[tactic(auto, using(runs::proofs::Taking::take_not_open, runs::proofs::Taking::take_not_of_stage, runs::proofs::Taking::take_outside, runs::proofs::Taking::take_forbidden, runs::proofs::Calls::guard_read))]
     fn allowed(&self, change: u16, wait: u32) -> Result<ChangeRow, Refusal>
-        ensures { MatchResult result (Allowed (rows_of self.now.plan) (view_of D.DrawSource.coming self.now) change wait) (λ e. take_call (plan_for self.now) (view_of D.DrawSource.coming self.now) change wait ≡ refused e (view_of D.DrawSource.coming self.now)) }
+        ensures { MatchResult result
+            (Allowed (rows_of self.now.plan) (view_of D.DrawSource.coming self.now) change wait)
+            (λ e. take_call (plan_for self.now) (view_of D.DrawSource.coming self.now) change wait
+            ≡ (Err e, view_of D.DrawSource.coming self.now)) }
     {
         if !self.standing.is_open() {
             return Err(Refusal::RunNotOpen);

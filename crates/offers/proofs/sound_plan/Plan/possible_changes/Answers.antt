@@ -3,6 +3,7 @@ use Rattle.std.proofs.lemmas.List.{length-append, length-drop, length-take}
 use Rattle.region.specs.Viewed.{viewed}
 use Rattle.rows.specs.Plans.{PlanRows}
 use Rattle.rows.specs.Verdicts.{no_change}
+use Rattle.runs.specs.declared.Offer.{Offer}
 use Rattle.runs.specs.Plans.{stage_of}
 use Rattle.runs.specs.Runs.{Span, any_in, guard_span, offer_of, offers_from}
 use Rattle.runs.specs.Tables.{change_of_row}
@@ -32,15 +33,16 @@ loop-i-preserved c =
     let rest = offers_from r last (first + (c.loop-i.i + 1)) (drop (c.loop-i.i + 1) (map (change_of_row p) rows)) in
     elim c.if-is_some.branch [
       | then-is_some w ↦
-          let some : any_in span ≡ true = cc in
-          let list : listed c.if-is_some.list ≡ os ++ offer_of (first + c.loop-i.i) span ∷ [] = cc in
+          let some : any_in span ≡ true = sym (ap any_in c.guard_span-span.ensures.span) ∙ sym c.is_some.ensures ∙ w.if-is_some.true in
+          let list : listed c.if-is_some.list ≡ os ++ offer_of (first + c.loop-i.i) span ∷ [] =
+          ap listed w.list-is ∙ w.push.ensures ∙ ap (λ (o : Offer). os ++ o ∷ []) (w.offer.ensures ∙ ap (offer_of (first + c.loop-i.i)) c.guard_span-span.ensures.span) in
           record {
             told = ap (λ z. z ++ rest) list ∙ (next_offered r last first p rows c.loop-i.i os c.loop-i-test.true some ∙ c.loop-i.invariant.told);
             few = omega (arith, ap length list, length-append os (offer_of (first + c.loop-i.i) span ∷ []), c.loop-i.invariant.few);
           }
       | else-is_some w ↦
-          let none : any_in span ≡ false = cc in
-          let list : listed c.if-is_some.list ≡ os = cc in
+          let none : any_in span ≡ false = sym (ap any_in c.guard_span-span.ensures.span) ∙ sym c.is_some.ensures ∙ w.if-is_some.false in
+          let list : listed c.if-is_some.list ≡ os = ap listed w.list-is in
           record {
             told = ap (λ z. z ++ rest) list ∙ (ap (λ z. os ++ z) (next_not_offered r last first p rows c.loop-i.i c.loop-i-test.true none) ∙ c.loop-i.invariant.told);
             few = omega (arith, ap length list, c.loop-i.invariant.few);
