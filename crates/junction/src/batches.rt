@@ -46,7 +46,7 @@ impl<'a> Watch for Progress<'a> {
 fn rows_of(
     rt: &HostRuntime,
     handed: Handed<'_>,
-    source: Source<'_>,
+    source: &mut Source<'_>,
     identifiers: &[u32],
     limits: Limits,
 ) -> anyhow::Result<Vec<BatchRow>> {
@@ -58,8 +58,7 @@ fn rows_of(
         rows: identifiers.len(),
         every: rows_between(identifiers.len(), limits.runs),
     };
-    let (made, _) = batch(handed, source, identifiers, limits, &mut log, &mut watch);
-    made?;
+    batch(handed, source, identifiers, limits, &mut log, &mut watch)?;
     Ok(rows)
 }
 
@@ -74,7 +73,7 @@ pub fn run_batch(rt: &HostRuntime, mut args: Args) -> anyhow::Result<()> {
     let rows = rows_of(
         rt,
         file.handed(),
-        draws.source(),
+        &mut draws.source(),
         &options.identifiers,
         limits,
     )?;

@@ -34,13 +34,12 @@ fn calls_in(rt: &HostRuntime, path: &str) -> anyhow::Result<Vec<Call<Chooser>>> 
 pub fn entries_of(
     rt: &HostRuntime,
     handed: Handed<'_>,
-    source: Source<'_>,
+    source: &mut Source<'_>,
     calls: &[Call<Chooser>],
 ) -> anyhow::Result<Vec<Entry>> {
     let mut rows = vec![in rt.alloc(); Entry::blank(); calls.len()]?;
     let mut log = Log::new(&mut rows);
-    let (made, _) = replay(handed, source, calls, &mut log);
-    made?;
+    replay(handed, source, calls, &mut log)?;
     Ok(rows)
 }
 
@@ -53,7 +52,7 @@ pub fn replay_file(rt: &HostRuntime, mut args: Args) -> anyhow::Result<()> {
     let file = PlanFile::open(rt, plan.as_str())?;
     let calls = calls_in(rt, path.as_str())?;
     let draws = options.draws.load(rt)?;
-    let entries = entries_of(rt, file.handed(), draws.source(), &calls)?;
+    let entries = entries_of(rt, file.handed(), &mut draws.source(), &calls)?;
     for entry in entries.iter() {
         println!(rt; "{}", ShownEntry(entry))?;
     }

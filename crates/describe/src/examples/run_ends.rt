@@ -69,7 +69,8 @@ fn taken(change: u16, wait: u32, outcome: u16) -> Result<Answer, Refusal> {
 #[test]
 fn refusals_come_in_their_order_and_change_nothing(rt: HostRuntime) {
     let rows = two_stages(0, 4, 1);
-    let mut run = Run::open(handed(&rows), Tape::new(&[3221225472], 1));
+    let mut tape = Tape::new(&[3221225472], 1);
+    let mut run = Run::open(handed(&rows), &mut tape);
     assert_eq!(rt; run.take(0, 3), Err(Refusal::GuardForbidsWait));
     assert_eq!(rt; run.take(0, 7), Err(Refusal::WaitOutsideHold));
     assert_eq!(rt; run.take(1, 4), Err(Refusal::ChangeNotOfStage));
@@ -82,7 +83,8 @@ fn refusals_come_in_their_order_and_change_nothing(rt: HostRuntime) {
 #[test]
 fn three_takes_use_three_draws(rt: HostRuntime) {
     let rows = two_stages(0, 4, 1);
-    let mut run = Run::open(handed(&rows), Tape::new(&[0, 3221225472, 0], 3));
+    let mut tape = Tape::new(&[0, 3221225472, 0], 3);
+    let mut run = Run::open(handed(&rows), &mut tape);
     assert_eq!(rt; run.take(0, 4), taken(0, 4, 0));
     assert_eq!(rt; run.take(0, 6), taken(0, 6, 1));
     assert_eq!(rt; run.take(1, 3), taken(1, 3, 2));
@@ -101,7 +103,8 @@ fn three_takes_use_three_draws(rt: HostRuntime) {
 #[test]
 fn a_goal_met_on_the_way_needs_no_draw(rt: HostRuntime) {
     let rows = two_stages(1, 5, 2);
-    let mut run = Run::open(handed(&rows), Tape::new(&[], 1));
+    let mut tape = Tape::new(&[], 1);
+    let mut run = Run::open(handed(&rows), &mut tape);
     assert_eq!(rt; run.take(0, 4), Ok(Answer::Met { wait: 4 }));
     assert_eq!(rt; run.standing(), Standing::Reached);
 }
@@ -109,7 +112,8 @@ fn a_goal_met_on_the_way_needs_no_draw(rt: HostRuntime) {
 #[test]
 fn tables_that_do_not_pass_run_out_at_once(rt: HostRuntime) {
     let rows = two_stages(4, 4, 1);
-    let mut run = Run::open(handed(&rows), Tape::new(&[], 1));
+    let mut tape = Tape::new(&[], 1);
+    let mut run = Run::open(handed(&rows), &mut tape);
     assert_eq!(rt; run.step(&Earliest), Ok(Answer::RanOut));
     assert_eq!(rt; run.standing(), Standing::Stuck);
     assert_eq!(rt; run.step(&Earliest), Err(Refusal::RunNotOpen));
@@ -121,10 +125,11 @@ fn a_replay_that_does_not_fit_its_log_does_nothing(rt: HostRuntime) {
     let mut entries = [Entry::blank(); 1];
     let mut log = Log::new(&mut entries);
     let calls = [Call::Step(Earliest), Call::Offers];
-    let (refused, tape) = replay(handed(&rows), Tape::new(&[0], 1), &calls, &mut log);
+    let mut tape = Tape::new(&[0], 1);
+    let refused = replay(handed(&rows), &mut tape, &calls, &mut log);
     assert_eq!(rt; refused, Err(Refusal::LogFull));
     assert_eq!(rt; log.len(), 0);
-    let (made, _) = replay(handed(&rows), tape, &calls[0..1], &mut log);
+    let made = replay(handed(&rows), &mut tape, &calls[0..1], &mut log);
     assert_eq!(rt; made, Ok(()));
     assert_eq!(rt; log.len(), 1);
 }
