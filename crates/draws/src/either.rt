@@ -10,8 +10,8 @@ use crate::source::DrawSource;
 use crate::tape::Tape;
 use rows::refusal::Refusal;
 
-// Computed or recorded draws, whichever were asked for where the program runs. A closed list and no `&mut dyn`, which would lend the source:
-// a run owns it and gives it back, so its type is one value of known size.
+// Computed or recorded draws, whichever were asked for where the program runs. A closed list and no `&mut dyn`: there are these two kinds only,
+// and a source of either is one value, copied and compared as it stands.
 #[derive(Clone, Copy, Debug, PartialEq, Eq)]
 pub enum Source<'a> {
     Computed(Congruential),
