@@ -88,7 +88,9 @@ within ids limits =
 -- why a batch is refused, if it is: a number off its limits, or else too little room for its rows
 abbrev pub refusal_of : ℕ → Limits → ℕ → Option Refusal
 refusal_of ids limits room =
-    cond (within ids limits) (cond (nat_le ids room) None (Some (refusal_no 13))) (Some (refusal_no 14))
+    cond (within ids limits)
+    (cond (nat_le ids room) None (Some (refusal_no 13)))
+    (Some (refusal_no 14))
 
 -- rows join a log's entries, in their order; the rows past them stay
 pub record Joined (new : List BatchRow) (log log' : Log BatchRow) : Type 0 where

@@ -39,7 +39,9 @@ impl<'a, T: Copy> Log<'a, T> {
 
     // Keeps one more entry. One that does not fit is refused and alters nothing.
     pub fn enter(&mut self, entry: T) -> Result<(), Refusal>
-        ensures entered { MatchResult result (λ _. entries_of self.new ≡ entries_of self.old ++ entry ∷ []) (λ e. (e ≡ refusal_no 13) × (self.new ≡ self.old)) }
+        ensures entered { MatchResult result
+            (λ _. entries_of self.new ≡ entries_of self.old ++ entry ∷ [])
+            (λ e. (e ≡ refusal_no 13) × (self.new ≡ self.old)) }
         ensures the_rest_is_untouched { MatchResult result (λ _. past_of self.new ≡ drop 1 (past_of self.old)) (λ _. past_of self.new ≡ past_of self.old) }
         ensures refused_when_full { Decides (is_err result) (past_of self.old ≡ []) }
         ensures same_rows { self.new.rows.ghost_name ≡ self.old.rows.ghost_name }

@@ -27,7 +27,7 @@ cut_of_lead r c i j x b s e =
 pub next_row : (r : Record) (rows : List ComparisonRow) (i : ℕ) (c : Comparison) (x y : Span) → i < length rows → c ≡ reading_of (get_or rows i no_comparison) → y ≡ cut r (comparison_in c) x → cuts r (drop (i + 1) (map comparison_of_row rows)) y ≡ cuts r (drop i (map comparison_of_row rows)) x
 next_row r rows i c x y h e f =
     let l : i < length (map comparison_of_row rows) = omega (arith, length-map rows comparison_of_row) in
-    let reads : comparison_in c ≡ comparison_of_row (get_or rows i no_comparison) = ap comparison_in e in
+    let reads = ap comparison_in e in
     let here = get_or-map comparison_of_row rows i no_comparison (comparison_of_row no_comparison) h in
     let more = cuts_more r (map comparison_of_row rows) i (comparison_of_row no_comparison) x l in
     cc

@@ -20,7 +20,10 @@ names_missing bits r = nat_le (2 ^ length r.timers) bits
 
 -- what a reset of the named timers answers, and the record after it: one that names a missing timer is refused and alters nothing
 abbrev pub reset_by : ℕ → Record → Result (Unit {0}) Refusal × Record
-reset_by bits r = cond (names_missing bits r) (Err (refusal_no 4), r) (Ok tt, reset (marks (length r.timers) bits) r)
+reset_by bits r =
+    cond (names_missing bits r)
+    (Err (refusal_no 4), r)
+    (Ok tt, reset (marks (length r.timers) bits) r)
 
 -- a table that has the place of each rank, and of one more, among zero and the live classes
 abbrev pub Placed : List ℕ → List Bool → Record → Type 0

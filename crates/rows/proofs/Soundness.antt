@@ -41,7 +41,8 @@ kept_from_none (rule ∷ rules) e =
 
 none_from_kept : (rules : List Rule) → Kept rules → first_broken rules ≡ None
 none_from_kept [] h = refl
-none_from_kept (rule ∷ rules) h = ap (λ b. cond b (Some (refusal_no rule.1)) (first_broken rules)) h.0 ∙ none_from_kept rules h.1
+none_from_kept (rule ∷ rules) h =
+    ap (λ b. cond b (Some (refusal_no rule.1)) (first_broken rules)) h.0 ∙ none_from_kept rules h.1
 
 fault_at_none : (w : Where) (o : Option Refusal) → fault_at w o ≡ None → o ≡ None
 fault_at_none w None h = refl

@@ -112,7 +112,8 @@ part_fault s rooms b = fault_at (Section s) (first_broken (layout_rules s (count
 
 -- the first fault in how the bytes are laid out: section by section, then what follows them
 abbrev pub layout_fault : Counts → List SectionName → List ℕ → Option Fault
-layout_fault rooms [] b = cond (nat_lt 0 (length b)) (Some (record { refusal = refusal_no 2; at = File })) None
+layout_fault rooms [] b =
+    cond (nat_lt 0 (length b)) (Some (record { refusal = refusal_no 2; at = File })) None
 layout_fault rooms (s ∷ more) b = or_else (part_fault s rooms b) (layout_fault rooms more (after s b))
 
 -- what is wrong with a file that is read into tables of some room, if anything is: the layout first, then the records

@@ -36,7 +36,10 @@ all_listed P first n rows h = All-take P n (drop first rows) (All-drop P first r
 
 comparison_named : (p : PlanRows) (c : ComparisonRow) → SoundComparison p c → NamesBelow (length (plan_in p).ceilings) (comparison_of_row c)
 comparison_named p c h =
-    cond_both (ltb c.kind 4) (Timer c.first) (Lead c.first c.second) (λ s. NamesBelow (length (plan_in p).ceilings) (comparison_in (record { subject = s; relation = relation_of c.kind; constant = c.constant }))) (λ e. omega (arith, ceilings_counted p, h.timer)) (λ e. (omega (arith, ceilings_counted p, h.timer), omega (arith, ceilings_counted p, h.other (ltb-false c.kind 4 e))))
+    cond_both (ltb c.kind 4) (Timer c.first) (Lead c.first c.second)
+    (λ s. NamesBelow (length (plan_in p).ceilings) (comparison_in (record { subject = s; relation = relation_of c.kind; constant = c.constant })))
+    (λ e. omega (arith, ceilings_counted p, h.timer))
+    (λ e. (omega (arith, ceilings_counted p, h.timer), omega (arith, ceilings_counted p, h.other (ltb-false c.kind 4 e))))
 
 -- the comparisons of any list name timers of the plan
 comparisons_named : (p : PlanRows) → SoundRows p → (first n : ℕ) → NamedIn (plan_in p) (comparisons_of p first n)

@@ -1,7 +1,7 @@
 -- A take is refused, or it fits and is made.
-use Rattle.std.proofs.Common.{◌≡◌, ℕ, ◌+◌, ◌<◌, ◌≤◌, Bool, true, false, cond, ltb, leb, ◌⊎◌, length, get_or, Some, None, Ok, Option, IfOk, sym, refl, ap, ◌∙◌, subst, inl, inr, arith}
+use Rattle.std.proofs.Common.{◌≡◌, ℕ, ◌+◌, ◌≤◌, Bool, true, false, cond, ltb, leb, ◌⊎◌, length, get_or, Some, None, Ok, Option, IfOk, sym, refl, ap, ◌∙◌, subst, inl, inr, arith}
 use Rattle.std.proofs.lemmas.Bool.{cases_Bool, cond-true, cond-false, and_parts, and_from, leb-true, ltb-true, le-leb, lt-ltb}
-use Rattle.runs.specs.Cases.{answer_number}
+use Rattle.runs.specs.Cases.{TakenOrMet}
 use Rattle.runs.specs.Plans.{Plan, stage_of, OfStage, change_of, blank_outcome}
 use Rattle.runs.specs.Runs.{inside, top, goal_by, Run, Outturn, is_open, is_of_stage, refused, picked_by, arrived, drawing, at_goal, making, waits_for, take_call}
 use Rattle.runs.specs.declared.Answer.TheVariants.{Taken, Met}
@@ -129,21 +129,28 @@ take_no_draw plan run c d h e n = take_draws plan run c d h e ∙ ap (drawing pl
 pub take_taken : (plan : Plan) (run : Run) (c d g : ℕ) → Fits plan run c d → goal_by plan run.stage run.region d ≡ false → run.coming 0 ≡ Some g → take_call plan run c d ≡ (Ok (Taken c d ((change_of plan run.stage c).first + picked_by g (change_of plan run.stage c))), arrived plan run d (get_or (change_of plan run.stage c).outcomes (picked_by g (change_of plan run.stage c)) blank_outcome))
 take_taken plan run c d g h e n = take_draws plan run c d h e ∙ ap (drawing plan run c d) n
 
--- a take that is granted is taken or met
-pub taken_or_met : (plan : Plan) (run : Run) (c d : ℕ) → IfOk (take_call plan run c d).0 (λ a. answer_number a < 2)
+-- a take that is granted is taken, with the change and the wait, or met
+pub taken_or_met : (plan : Plan) (run : Run) (c d : ℕ) →
+    IfOk (take_call plan run c d).0 (TakenOrMet c d)
 taken_or_met plan run c d = go (take_cases plan run c d)
   where
-    at : (z : Outturn) → take_call plan run c d ≡ z → IfOk z.0 (λ a. answer_number a < 2) → IfOk (take_call plan run c d).0 (λ a. answer_number a < 2)
-    at z e k = subst (λ y. IfOk y.0 (λ a. answer_number a < 2)) (sym e) k
+    Answered : Outturn → Type 0
+    Answered z = IfOk z.0 (TakenOrMet c d)
 
-    drawn : Fits plan run c d → goal_by plan run.stage run.region d ≡ false → (o : Option ℕ) → run.coming 0 ≡ o → IfOk (take_call plan run c d).0 (λ a. answer_number a < 2)
+    at : (z : Outturn) → take_call plan run c d ≡ z → Answered z → Answered (take_call plan run c d)
+    at z e k = subst Answered (sym e) k
+
+    drawn : Fits plan run c d → goal_by plan run.stage run.region d ≡ false → (o : Option ℕ) →
+        run.coming 0 ≡ o → Answered (take_call plan run c d)
     drawn f e None j = at (refused 12 run) (take_no_draw plan run c d f e j) tt
-    drawn f e (Some g) j = at _ (take_taken plan run c d g f e j) (omega arith)
+    drawn f e (Some g) j = at _ (take_taken plan run c d g f e j) (inl (refl, (_, refl)))
 
-    made : Fits plan run c d → (goal_by plan run.stage run.region d ≡ true) ⊎ (goal_by plan run.stage run.region d ≡ false) → IfOk (take_call plan run c d).0 (λ a. answer_number a < 2)
-    made f (inl e) = at _ (take_met plan run c d f e) (omega arith)
-    made f (inr e) = drawn f e (run.coming 0) refl
+    made : (b : Bool) → Fits plan run c d → goal_by plan run.stage run.region d ≡ b →
+        Answered (take_call plan run c d)
+    made true f e = at _ (take_met plan run c d f e) (inr (refl, refl))
+    made false f e = drawn f e (run.coming 0) refl
 
-    go : Fits plan run c d ⊎ ((n : ℕ) × (take_call plan run c d ≡ refused n run)) → IfOk (take_call plan run c d).0 (λ a. answer_number a < 2)
-    go (inl f) = made f (cases_Bool (goal_by plan run.stage run.region d))
+    go : Fits plan run c d ⊎ ((n : ℕ) × (take_call plan run c d ≡ refused n run)) →
+        Answered (take_call plan run c d)
+    go (inl f) = made (goal_by plan run.stage run.region d) f refl
     go (inr k) = at (refused k.0 run) k.1 tt

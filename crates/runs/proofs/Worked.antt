@@ -74,5 +74,4 @@ the_rules_give_the_worked_examples =
       refused_by_the_stage = by_the_stage;
       three_takes = three_takes;
       met_on_the_way = met_between;
-      answers_by_number = (refl, refl, refl, refl, refl, refl);
     }

@@ -7,7 +7,6 @@ use Rattle.rows.specs.Plans.{PlanRows}
 use Rattle.rows.specs.Refusals.{refusal_no}
 use Rattle.rows.specs.Verdicts.{faultless}
 use Rattle.theory.specs.Records.{wait, reset}
-use Rattle.runs.specs.Cases.{answer_number, answer_values}
 use Rattle.runs.specs.Plans.{Plan, Sound, blank_plan}
 use Rattle.runs.specs.Ticks.{ticket}
 use Rattle.runs.specs.Runs.{Draws, Run, Scheduler, take_call, step_call, shown, Take, after, all_zero, opening}
@@ -73,8 +72,12 @@ pub record TheRulesGiveTheWorkedExamples : Type 0 where
   pub plans_can_be_run : Sound example_plan × Sound example_met × Sound blank_plan
   -- two timers at zero, one step later, with the second set to zero: the first then leads by part of a second
   pub a_reset_after_a_step : reset (false ∷ true ∷ []) (wait 1 (all_zero 2)) ≡ record { whole = true; classes = 2; timers = record { seconds = 0; rank = 1 } ∷ record { seconds = 0; rank = 0 } ∷ [] }
-  -- on the blank plan a step by any scheduler runs out and leaves the run stuck, and the next step is refused with 8
-  pub the_blank_plan_runs_out : (f g : Scheduler) (draws : Draws) → ((step_call blank_plan f (opening blank_plan draws)).0 ≡ Ok RanOut) × ((step_call blank_plan f (opening blank_plan draws)).1.standing ≡ Stuck) × ((step_call blank_plan g (step_call blank_plan f (opening blank_plan draws)).1).0 ≡ Err (refusal_no 8))
+  -- on the blank plan a step runs out and leaves the run stuck, and the next is refused with 8
+  pub the_blank_plan_runs_out : (f g : Scheduler) (draws : Draws) →
+      ((step_call blank_plan f (opening blank_plan draws)).0 ≡ Ok RanOut)
+      × ((step_call blank_plan f (opening blank_plan draws)).1.standing ≡ Stuck)
+      × ((step_call blank_plan g (step_call blank_plan f (opening blank_plan draws)).1).0
+      ≡ Err (refusal_no 8))
   -- the example plan opens with one offer: change 0 after 4 to 6 steps
   pub offers_at_opening : (draws : Draws) → shown example_plan (opening example_plan draws) ≡ record { change = 0; lowest = 4; highest = 6 } ∷ []
   -- of four parts, these two draws, one apart, fall into the third and the last
@@ -82,14 +85,15 @@ pub record TheRulesGiveTheWorkedExamples : Type 0 where
   -- change 0 after 4 steps with the second of these draws leads to stage 1, where the goal is on
   pub a_take_to_the_goal : ((take_call example_plan (opening example_plan (drawn (3221225472 ∷ []))) 0 4).0 ≡ Ok (Taken 0 4 1)) × ((take_call example_plan (opening example_plan (drawn (3221225472 ∷ []))) 0 4).1.stage ≡ 1) × ((take_call example_plan (opening example_plan (drawn (3221225472 ∷ []))) 0 4).1.standing ≡ Reached)
   -- at opening, change 0 after 3 steps is refused with 11: its guard does not allow that wait
-  pub refused_by_the_guard : (draws : Draws) → (take_call example_plan (opening example_plan draws) 0 3).0 ≡ Err (refusal_no 11)
+  pub refused_by_the_guard : (draws : Draws) →
+      (take_call example_plan (opening example_plan draws) 0 3).0 ≡ Err (refusal_no 11)
   -- change 0 after 7 steps is refused with 10: the stage does not hold that long
-  pub refused_by_the_hold : (draws : Draws) → (take_call example_plan (opening example_plan draws) 0 7).0 ≡ Err (refusal_no 10)
+  pub refused_by_the_hold : (draws : Draws) →
+      (take_call example_plan (opening example_plan draws) 0 7).0 ≡ Err (refusal_no 10)
   -- change 1 after 4 steps is refused with 9: it is of another stage
-  pub refused_by_the_stage : (draws : Draws) → (take_call example_plan (opening example_plan draws) 1 4).0 ≡ Err (refusal_no 9)
+  pub refused_by_the_stage : (draws : Draws) →
+      (take_call example_plan (opening example_plan draws) 1 4).0 ≡ Err (refusal_no 9)
   -- three takes lead back to stage 0 with x at zero and y past 6 s; the run is open, and change 0 is offered after 8 to 12 steps
   pub three_takes : (after_three_takes.stage ≡ 0) × (after_three_takes.region ≡ record { whole = true; classes = 2; timers = record { seconds = 0; rank = 0 } ∷ record { seconds = 6; rank = 1 } ∷ [] }) × (after_three_takes.standing ≡ Open) × (shown example_plan after_three_takes ≡ record { change = 0; lowest = 8; highest = 12 } ∷ [])
   -- the goal is met on the way, though it is on at neither end of the wait: the take needs no draw, and the whole wait passes
   pub met_on_the_way : ((take_call example_met (opening example_met (drawn [])) 0 4).0 ≡ Ok (Met 4)) × ((take_call example_met (opening example_met (drawn [])) 0 4).1.region ≡ record { whole = true; classes = 1; timers = record { seconds = 2; rank = 0 } ∷ record { seconds = 2; rank = 0 } ∷ [] }) × ((take_call example_met (opening example_met (drawn [])) 0 4).1.standing ≡ Reached) × ((take_call example_met (opening example_met (drawn [])) 0 4).1.coming ≡ drawn [])
-  -- the three answers, each with its number and its values
-  pub answers_by_number : (answer_number (Taken 0 4 1) ≡ 0) × (answer_values (Taken 0 4 1) ≡ 0 ∷ 4 ∷ 1 ∷ []) × (answer_number (Met 4) ≡ 1) × (answer_values (Met 4) ≡ 4 ∷ []) × (answer_number RanOut ≡ 2) × (answer_values RanOut ≡ [])

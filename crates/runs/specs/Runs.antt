@@ -192,7 +192,7 @@ making plan run c d =
 abbrev pub waits_for : Plan → Run → ℕ → Span
 waits_for plan run c = guard_span run.region (top plan run.stage run.region) (change_of plan run.stage c).guard
 
--- the take of the change at the place c after the wait d: the run must be open, the change of the stage, the wait in the hold interval and allowed by the guard, tested in this order
+-- the take of the change at the place c after the wait d: the first test that fails refuses it
 unfoldable pub take_call : Plan → Run → ℕ → ℕ → Outturn
 take_call plan run c d =
     tested (is_open run.standing) 8 run
@@ -234,7 +234,8 @@ stepping plan f run (o ∷ os) = take_call plan run (chosen plan f run) (chosen_
 
 -- the step by a scheduler
 unfoldable pub step_call : Plan → Scheduler → Run → Outturn
-step_call plan f run = tested (is_open run.standing) 8 run (stepping plan f run (offers_of plan run))
+step_call plan f run =
+    tested (is_open run.standing) 8 run (stepping plan f run (offers_of plan run))
 
 -- the calls of a run: a step by a scheduler, a take of a change after a wait, the offers, and how it stands
 pub data Call : Type 0 where

@@ -150,7 +150,10 @@ StepAnswers plan f run (Ok (Met d)) = HasOffers plan run × (goal_by_chosen plan
 StepAnswers plan f run (Ok RanOut) = (run.standing ≡ Open) × (offers_of plan run ≡ [])
 StepAnswers plan f run (Err e) =
     ((e ≡ refusal_no 8) × (run.standing ≢ Open))
-    ⊎ ((e ≡ refusal_no 12) × HasOffers plan run × (goal_by_chosen plan f run ≡ false) × (run.coming 0 ≡ None))
+    ⊎ ((e ≡ refusal_no 12)
+    × HasOffers plan run
+    × (goal_by_chosen plan f run ≡ false)
+    × (run.coming 0 ≡ None))
 
 -- two granted steps chose alike: the same change and wait, or the same wait to the goal, or both ran out
 abbrev pub Alike : Answer → Answer → Type 0

@@ -31,17 +31,21 @@ loop-i-preserved c =
     let os = listed c.loop-i.list in
     let span : Span = guard_span r last (change_of_row p (get_or rows c.loop-i.i no_change)).guard in
     let rest = offers_from r last (first + (c.loop-i.i + 1)) (drop (c.loop-i.i + 1) (map (change_of_row p) rows)) in
+    let of_guard = c.guard_span-span.ensures.span in
+    let told : c.is_some.result ≡ any_in span = c.is_some.ensures ∙ ap any_in of_guard in
     elim c.if-is_some.branch [
       | then-is_some w ↦
-          let some : any_in span ≡ true = sym (ap any_in c.guard_span-span.ensures.span) ∙ sym c.is_some.ensures ∙ w.if-is_some.true in
+          let some : any_in span ≡ true = sym told ∙ w.if-is_some.true in
           let list : listed c.if-is_some.list ≡ os ++ offer_of (first + c.loop-i.i) span ∷ [] =
-          ap listed w.list-is ∙ w.push.ensures ∙ ap (λ (o : Offer). os ++ o ∷ []) (w.offer.ensures ∙ ap (offer_of (first + c.loop-i.i)) c.guard_span-span.ensures.span) in
+          ap listed w.list-is
+          ∙ w.push.ensures
+          ∙ ap (λ (o : Offer). os ++ o ∷ []) (w.offer.ensures ∙ ap (offer_of (first + c.loop-i.i)) of_guard) in
           record {
             told = ap (λ z. z ++ rest) list ∙ (next_offered r last first p rows c.loop-i.i os c.loop-i-test.true some ∙ c.loop-i.invariant.told);
             few = omega (arith, ap length list, length-append os (offer_of (first + c.loop-i.i) span ∷ []), c.loop-i.invariant.few);
           }
       | else-is_some w ↦
-          let none : any_in span ≡ false = sym (ap any_in c.guard_span-span.ensures.span) ∙ sym c.is_some.ensures ∙ w.if-is_some.false in
+          let none : any_in span ≡ false = sym told ∙ w.if-is_some.false in
           let list : listed c.if-is_some.list ≡ os = ap listed w.list-is in
           record {
             told = ap (λ z. z ++ rest) list ∙ (ap (λ z. os ++ z) (next_not_offered r last first p rows c.loop-i.i c.loop-i-test.true none) ∙ c.loop-i.invariant.told);
