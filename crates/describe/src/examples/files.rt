@@ -1,10 +1,11 @@
 // The example plan's file, and reading an altered copy of it.
 use crate::examples::makers::{change, compare, outcome, stage};
 use plan::handed::Handed;
-use plan::tables::check_tables;
+use plan::tables::{check_tables, fault_in_tables};
 use reader::owned::OwnedTables;
-use rows::fault::Fault;
-use rows::section::Counts;
+use rows::fault::{Fault, Where};
+use rows::refusal::Refusal;
+use rows::section::{Counts, SectionName};
 use rows::tables::{GoalRow, TimerRow};
 use std::alloc::{AllocError, Global};
 use std::test::Fail;
@@ -42,15 +43,47 @@ fn altered(edits: &[(usize, u8)]) -> [u8; 105] {
     bytes
 }
 
-// Reads the first `len` bytes of the example with these bytes altered.
+// What comes of some bytes and some tables: the fault that is told of them, and the answer of a read.
+#[derive(Clone, Copy, Debug, PartialEq, Eq)]
+pub struct Answered {
+    pub fault: Option<Fault>,
+    pub answer: Result<Counts, Refusal>,
+}
+
+impl Answered {
+    pub fn of(mut tables: OwnedTables, bytes: &[u8]) -> Answered {
+        Answered {
+            fault: tables.fault_in(bytes),
+            answer: tables.read(bytes),
+        }
+    }
+
+    // The read is refused, and the fault stands there.
+    pub fn refused(refusal: Refusal, at: Where) -> Answered {
+        Answered {
+            fault: Some(Fault { refusal, at }),
+            answer: Err(refusal),
+        }
+    }
+
+    // So many rows are read, and there is no fault.
+    pub fn granted(counts: Counts) -> Answered {
+        Answered {
+            fault: None,
+            answer: Ok(counts),
+        }
+    }
+}
+
+// Looks at the first `len` bytes of the example with these bytes altered.
 pub fn read_altered(
     heap: Global,
     len: usize,
     edits: &[(usize, u8)],
-) -> Result<Result<Counts, Fault>, AllocError> {
+) -> Result<Answered, AllocError> {
     let bytes = altered(edits);
-    let mut tables = OwnedTables::of(heap, EXAMPLE_COUNTS)?;
-    Ok(tables.read(&bytes[0..len.min(EXAMPLE.len())]))
+    let tables = OwnedTables::of(heap, EXAMPLE_COUNTS)?;
+    Ok(Answered::of(tables, &bytes[0..len.min(EXAMPLE.len())]))
 }
 
 #[test]
@@ -92,5 +125,17 @@ fn the_example_is_read_back(rt: HostRuntime) -> Result<(), Fail> {
         counts: n,
     };
     assert!(rt; check_tables(handed).is_ok());
+    assert_eq!(rt; fault_in_tables(handed), None);
+    // a count that its table has no room for is told with its section
+    let small = Handed {
+        tables: tables.view(),
+        counts: Counts { timers: 4, ..n },
+    };
+    assert_eq!(rt; check_tables(small), Err(Refusal::TableTooSmall));
+    let fault = Fault {
+        refusal: Refusal::TableTooSmall,
+        at: Where::Section(SectionName::Timers),
+    };
+    assert_eq!(rt; fault_in_tables(small), Some(fault));
     Ok(())
 }

@@ -1,24 +1,19 @@
 // Counts at their limits and one past them, and tables that are one row too small.
-use crate::examples::files::{EXAMPLE, EXAMPLE_COUNTS};
+use crate::examples::files::{Answered, EXAMPLE, EXAMPLE_COUNTS};
 use reader::owned::OwnedTables;
-use rows::fault::{Fault, Where};
+use rows::fault::Where;
 use rows::refusal::Refusal;
 use rows::section::{Counts, SectionName};
 use std::alloc::{AllocError, Global};
 use std::test::Fail;
 
 // Reads the example up to a section's count, with that count, into tables of some room.
-fn read_count(
-    heap: Global,
-    n: Counts,
-    at: usize,
-    count: u16,
-) -> Result<Result<Counts, Fault>, AllocError> {
+fn read_count(heap: Global, n: Counts, at: usize, count: u16) -> Result<Answered, AllocError> {
     let mut bytes = EXAMPLE;
     let at = at.min(EXAMPLE.len() - 2);
     bytes[at..at + 2].copy_from_slice(&count.to_be_bytes());
-    let mut tables = OwnedTables::of(heap, n)?;
-    Ok(tables.read(&bytes[..at + 2]))
+    let tables = OwnedTables::of(heap, n)?;
+    Ok(Answered::of(tables, &bytes[..at + 2]))
 }
 
 #[test]
@@ -33,14 +28,8 @@ fn a_count_at_its_limit_goes_on_to_the_records(rt: HostRuntime) -> Result<(), Fa
     ];
     let largest = Counts::largest();
     for (name, at, least, most) in cases {
-        let ends = Err(Fault {
-            refusal: Refusal::FileEnds,
-            at: Where::Section(name),
-        });
-        let off = Err(Fault {
-            refusal: Refusal::CountOffLimits,
-            at: Where::Section(name),
-        });
+        let ends = Answered::refused(Refusal::FileEnds, Where::Section(name));
+        let off = Answered::refused(Refusal::CountOffLimits, Where::Section(name));
         assert_eq!(rt; read_count(rt.alloc(), largest, at, least)?, ends);
         assert_eq!(rt; read_count(rt.alloc(), largest, at, most)?, ends);
         assert_eq!(rt;
@@ -75,10 +64,7 @@ fn a_table_one_row_too_small_is_refused(rt: HostRuntime) -> Result<(), Fail> {
         (Counts { goals: 0, ..full }, SectionName::Goal),
     ];
     for (room, name) in cases {
-        let small = Err(Fault {
-            refusal: Refusal::TableTooSmall,
-            at: Where::Section(name),
-        });
+        let small = Answered::refused(Refusal::TableTooSmall, Where::Section(name));
         assert_eq!(rt; read_count(rt.alloc(), room, 98, 1)?, small);
     }
     Ok(())

@@ -1,6 +1,6 @@
 // One file for each refusal, and for each pair of rules that compete.
-use crate::examples::files::read_altered;
-use rows::fault::{Fault, Where};
+use crate::examples::files::{Answered, EXAMPLE_COUNTS, read_altered};
+use rows::fault::Where;
 use rows::refusal::Refusal;
 use rows::section::SectionName;
 use std::test::Fail;
@@ -8,7 +8,8 @@ use std::test::Fail;
 #[test]
 fn the_layout_comes_first(rt: HostRuntime) -> Result<(), Fail> {
     let heap = rt.alloc();
-    assert!(rt; read_altered(heap, 104, &[])?.is_ok());
+    let read = Answered::granted(EXAMPLE_COUNTS);
+    assert_eq!(rt; read_altered(heap, 104, &[])?, read);
     let timers = Where::Section(SectionName::Timers);
     let goal = Where::Section(SectionName::Goal);
     // the length of the file, the bytes altered, and the rule that breaks
@@ -25,7 +26,10 @@ fn the_layout_comes_first(rt: HostRuntime) -> Result<(), Fail> {
         (105, &[(3, 0)], Refusal::BytesFollow, Where::File),
     ];
     for (len, edits, refusal, at) in cases {
-        assert_eq!(rt; read_altered(heap, len, edits)?, Err(Fault { refusal, at }));
+        assert_eq!(rt;
+            read_altered(heap, len, edits)?,
+            Answered::refused(refusal, at)
+        );
     }
     Ok(())
 }
@@ -50,7 +54,10 @@ fn records_break_their_rules_in_order(rt: HostRuntime) -> Result<(), Fail> {
         (&[(47, 2)], Refusal::NotThere, stage),
     ];
     for (edits, refusal, at) in cases {
-        assert_eq!(rt; read_altered(heap, 104, edits)?, Err(Fault { refusal, at }));
+        assert_eq!(rt;
+            read_altered(heap, 104, edits)?,
+            Answered::refused(refusal, at)
+        );
     }
     Ok(())
 }
@@ -76,10 +83,14 @@ fn changes_and_outcomes_break_their_rules_in_order(rt: HostRuntime) -> Result<()
         (&[(101, 5)], Refusal::NotThere, goal),
     ];
     for (edits, refusal, at) in cases {
-        assert_eq!(rt; read_altered(heap, 104, edits)?, Err(Fault { refusal, at }));
+        assert_eq!(rt;
+            read_altered(heap, 104, edits)?,
+            Answered::refused(refusal, at)
+        );
     }
     // an empty list names nothing, and the weights may sum to 65,535
-    assert!(rt; read_altered(heap, 104, &[(103, 0), (101, 255)])?.is_ok());
-    assert!(rt; read_altered(heap, 104, &[(80, 255), (81, 254)])?.is_ok());
+    let read = Answered::granted(EXAMPLE_COUNTS);
+    assert_eq!(rt; read_altered(heap, 104, &[(103, 0), (101, 255)])?, read);
+    assert_eq!(rt; read_altered(heap, 104, &[(80, 255), (81, 254)])?, read);
     Ok(())
 }
