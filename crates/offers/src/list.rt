@@ -53,7 +53,7 @@ impl OfferList {
     }
 
     // Puts an offer at the end.
-    pub fn push(&mut self, offer: Offer)
+    pub(crate) fn push(&mut self, offer: Offer)
         requires { length (listed self.old) < 128 }
         ensures { listed self.new ≡ listed self.old ++ offer ∷ [] }
     {

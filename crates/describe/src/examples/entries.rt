@@ -1,12 +1,16 @@
 // Entries and histories in words.
 use crate::entries::ShownEntry;
+use crate::examples::makers::{change, compare, outcome, stage};
 use crate::history::History;
 use offers::list::OfferList;
+use offers::sound_plan::Plan;
+use plan::handed::{Handed, Tables};
+use plan::records::Records;
 use region::Region;
 use rows::refusal::Refusal;
-use rows::tables::TimerRow;
+use rows::tables::{GoalRow, StageRow, TimerRow};
 use run::call::{Entry, Reply};
-use runs::{Answer, Offer, Standing, State};
+use runs::{Answer, Standing, State};
 use std::alloc::Global;
 use std::test::Fail;
 
@@ -30,6 +34,29 @@ fn shown(heap: Global, reply: Reply, words: &str) -> Result<bool, Fail> {
     Ok(text.as_str() == expected.as_str())
 }
 
+// What a stage that holds while x ≤ 6 offers at zero, with half a second to a step: change 0, for x ≤ 0, and change 2,
+// for x ≥ 4. Change 1, for x ≥ 7, comes too late.
+fn two_of_three() -> OfferList {
+    let tables = Tables {
+        timers: &[TimerRow { ceiling: 10 }],
+        comparisons: &[
+            compare(2, 0, 6),
+            compare(2, 0, 0),
+            compare(0, 0, 7),
+            compare(0, 0, 4),
+        ],
+        stages: &[StageRow {
+            changes: 3,
+            ..stage(0, 0, 0)
+        }],
+        changes: &[change(1, 0, 1), change(2, 0, 1), change(3, 0, 1)],
+        outcomes: &[outcome(1, 0)],
+        goals: &[GoalRow::default()],
+    };
+    let counts = tables.counts();
+    Plan::of_tables(Handed { tables, counts }).possible_changes(&State::opening(1))
+}
+
 const TAKEN: Answer = Answer::Taken {
     change: 0,
     wait: 4,
@@ -49,15 +76,8 @@ fn an_entry_of_each_kind(rt: HostRuntime) -> Result<(), Fail> {
             "refused 12"
         )?
     );
-    let mut list = OfferList::none();
-    assert!(rt; shown(heap, Reply::Offered(list), "offers none")?);
-    list.push(Offer::default());
-    list.push(Offer {
-        change: 3,
-        lowest: 8,
-        highest: 12,
-    });
-    assert!(rt; shown(heap, Reply::Offered(list), "offers 0:0-0 3:8-12")?);
+    assert!(rt; shown(heap, Reply::Offered(OfferList::none()), "offers none")?);
+    assert!(rt; shown(heap, Reply::Offered(two_of_three()), "offers 0:0-0 2:8-12")?);
     assert!(rt; shown(heap, Reply::Stands(Standing::Failed), "standing failed")?);
     Ok(())
 }
