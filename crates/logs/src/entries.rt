@@ -6,7 +6,7 @@ ghost use Rattle.rows.specs.Refusals.{refusal_no};
 use crate::Log;
 use rows::refusal::Refusal;
 
-impl<'a, T: Copy> Log<'a, T> {
+impl<'a, T> Log<'a, T> {
     // A log with no entries.
     pub fn new(rows: &'a mut [T]) -> Log<'a, T>
         ensures empty { entries_of result ≡ [] }
@@ -36,7 +36,10 @@ impl<'a, T: Copy> Log<'a, T> {
     {
         self.rows.len() - self.len
     }
+}
 
+// An entry takes the place of a row that was there, which is let go.
+impl<'a, T: Drop> Log<'a, T> {
     // Keeps one more entry. One that does not fit is refused and alters nothing.
     pub fn enter(&mut self, entry: T) -> Result<(), Refusal>
         ensures entered { MatchResult result
@@ -80,6 +83,19 @@ mod tests {
         assert_eq!(rt; log.enter(1), Ok(()));
         assert_eq!(rt; log.len(), 1);
         assert_eq!(rt; rows, [1, 8, 9]);
+    }
+
+    // A row that is no copy of another.
+    #[derive(Debug, Drop, PartialEq, Eq)]
+    struct Row(u8);
+
+    #[test]
+    fn an_entry_takes_the_place_of_a_row_that_is_not_copied(rt: HostRuntime) {
+        let mut rows = [Row(7), Row(8)];
+        let mut log = Log::new(&mut rows);
+        assert_eq!(rt; log.enter(Row(1)), Ok(()));
+        assert_eq!(rt; log.entries(), [Row(1)].as_slice());
+        assert_eq!(rt; rows, [Row(1), Row(8)]);
     }
 
     #[test]
