@@ -1,2 +1,7 @@
+pub mod FirstWords
+pub mod Identified
+pub mod Inclusive
 pub mod Lowest
+pub mod Parts
 pub mod Told
+pub mod WordLists

@@ -1,7 +1,11 @@
 // Calls in words: `take CHANGE WAIT`, `step SCHEDULER`, `offers` and `standing`.
+ghost use Rattle.std.specs.Prelude.{◌≡◌, [], ◌∷◌, MatchOption, codes, slice_get};
+ghost use Rattle.std.specs.Option.{option_copied};
+ghost use Rattle.describe.specs.Calls.{AskFor, Asks};
 ghost use Rattle.describe.specs.Names.{Names};
+ghost use Rattle.describe.specs.Words.{words_of};
+ghost use Rattle.run.specs.declared.call.Call.{Call};
 ghost use Rattle.schedulers.specs.declared.chooser.Chooser.{Chooser};
-ghost use Rattle.std.specs.Option.{MatchOption};
 
 use crate::numbers::number;
 use run::call::Call;
@@ -20,16 +24,31 @@ pub fn named_scheduler(word: &str) -> Option<Chooser>
 }
 
 // The call of a change after a wait.
-fn take(change: &str, wait: &str) -> Option<Call<Chooser>> {
+fn take(change: &str, wait: &str) -> Option<Call<Chooser>>
+    ensures { let words = codes "take" ∷ change.now ∷ wait.now ∷ [] in
+        MatchOption result ((c : Call Chooser) → AskFor words c → ⊥) (λ c. AskFor words c) }
+{
     let change = u16::try_from(number(change)?).ok()?;
     let wait = number(wait)?;
     Some(Call::Take { change, wait })
 }
 
-// The call that a line asks for, if it asks for one. Words stand apart by spaces.
-pub fn call(line: &str) -> Option<Call<Chooser>> {
+// The first four words of a line, as far as there are any. Words stand apart by spaces.
+fn first_words(line: &str) -> (Option<&str>, Option<&str>, Option<&str>, Option<&str>)
+    ensures first { option_copied result.0 ≡ slice_get (words_of line.now) 0 }
+    ensures second { option_copied result.1 ≡ slice_get (words_of line.now) 1 }
+    ensures third { option_copied result.2 ≡ slice_get (words_of line.now) 2 }
+    ensures fourth { option_copied result.3 ≡ slice_get (words_of line.now) 3 }
+{
     let mut words = line.split(' ').filter(|word| !word.is_empty());
-    match (words.next(), words.next(), words.next(), words.next()) {
+    (words.next(), words.next(), words.next(), words.next())
+}
+
+// The call that a line asks for, if it asks for one.
+pub fn call(line: &str) -> Option<Call<Chooser>>
+    ensures { MatchOption result ((c : Call Chooser) → Asks line.now c → ⊥) (λ c. Asks line.now c) }
+{
+    match first_words(line) {
         (Some("take"), Some(change), Some(wait), None) => take(change, wait),
         // Not by `named_scheduler`: there a number alone is a sampled one, here `sampled` is said.
         (Some("step"), Some("earliest"), None, None) => Some(Call::Step(Chooser::Earliest)),

@@ -1,10 +1,18 @@
 // Identifiers of schedulers in words: `0..9`, or `3,5,8`.
+ghost use Rattle.std.specs.Prelude.{◌≡◌, ℕ, ◌<◌, ◌≤◌, List, length, IfOk, MatchOption};
+ghost use Rattle.describe.specs.Identifiers.{Lists, numbers_from_to, parts_of};
+ghost use Rattle.describe.specs.Words.{WriteAll};
+
 use crate::numbers::number;
 use batch::MOST_IDENTIFIERS;
 use std::alloc::{AllocError, Global};
 
 // The identifiers from the first to the last.
-fn counted(heap: Global, first: u32, last: u32) -> Result<Option<Vec<u32>>, AllocError> {
+fn counted(heap: Global, first: u32, last: u32) -> Result<Option<Vec<u32>>, AllocError>
+    ensures { let all = numbers_from_to first last in
+        IfOk result (λ o. MatchOption o (first ≤ last → 1000 < length all)
+        (λ v. (first ≤ last) × (v.items ≡ all) × (length v.items ≤ 1000))) }
+{
     match last.checked_sub(first) {
         Some(more) if (more as usize) < MOST_IDENTIFIERS => Ok(Some((first..=last).collect(heap)?)),
         _ => Ok(None),
@@ -12,7 +20,11 @@ fn counted(heap: Global, first: u32, last: u32) -> Result<Option<Vec<u32>>, Allo
 }
 
 // The identifiers of a list with commas.
-fn listed(heap: Global, word: &str) -> Result<Option<Vec<u32>>, AllocError> {
+fn listed(heap: Global, word: &str) -> Result<Option<Vec<u32>>, AllocError>
+    ensures { let parts = parts_of word.now in
+        IfOk result (λ o. MatchOption o ((ids : List ℕ) → length ids ≤ 1000 → WriteAll parts ids → ⊥)
+        (λ v. WriteAll parts v.items × (length v.items ≤ 1000))) }
+{
     let mut identifiers = Vec::new(heap);
     for part in word.split(',') {
         match number(part) {
@@ -25,7 +37,10 @@ fn listed(heap: Global, word: &str) -> Result<Option<Vec<u32>>, AllocError> {
 
 // The identifiers that a word names, at most as many as a batch may have: from the first to the last, or a list with commas.
 // That a word names none is no error: the one error is that memory is out.
-pub fn identifiers(heap: Global, word: &str) -> Result<Option<Vec<u32>>, AllocError> {
+pub fn identifiers(heap: Global, word: &str) -> Result<Option<Vec<u32>>, AllocError>
+    ensures { IfOk result (λ o. MatchOption o ((ids : List ℕ) → Lists word.now ids → ⊥)
+        (λ v. Lists word.now v.items)) }
+{
     match word.split_once("..") {
         Some((first, last)) => match (number(first), number(last)) {
             (Some(first), Some(last)) => counted(heap, first, last),

@@ -1,0 +1,28 @@
+-- Which numbers a word lists.
+use Rattle.std.specs.Prelude.{◌≡◌, ℕ, ◌+◌, ◌-◌, ◌≤◌, ◌⊎◌, List, ◌++◌, ◌==◌, codes, length}
+use Rattle.std.specs.List.{range_with_len, slice_split}
+use Rattle.describe.specs.Words.{WriteAll, Writes}
+
+-- the numbers from a first to a last, in order
+abbrev pub numbers_from_to : ℕ → ℕ → List ℕ
+numbers_from_to first last = range_with_len first (last - first + 1)
+
+-- a word FIRST..LAST counts up from the first number to the last
+pub record CountsUp (word numbers : List ℕ) : Type 0 where
+  pub front : List ℕ
+  pub back : List ℕ
+  pub first : ℕ
+  pub last : ℕ
+  pub word_is : word ≡ front ++ (codes ".." ++ back)
+  pub first_is : Writes front first
+  pub last_is : Writes back last
+  pub in_order : first ≤ last
+  pub all : numbers ≡ numbers_from_to first last
+
+-- the parts of a word between commas
+abbrev pub parts_of : List ℕ → List (List ℕ)
+parts_of word = slice_split (λ b. b == 44) word
+
+-- a word lists at most 1000 numbers: FIRST..LAST, or one number between each two commas
+abbrev pub Lists : List ℕ → List ℕ → Type 0
+Lists word numbers = (length numbers ≤ 1000) × (CountsUp word numbers ⊎ WriteAll (parts_of word) numbers)
