@@ -1,0 +1,6 @@
+pub mod Files
+pub mod Options
+pub mod Replays
+pub mod Sources
+pub mod Walks
+pub mod Words

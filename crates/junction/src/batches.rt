@@ -1,4 +1,10 @@
 // Runs many sampled schedulers and tells how often each reached the goal.
+ghost use Rattle.std.specs.Prelude.{◌≡◌, length, IfOk, OnOk};
+ghost use Rattle.batch.specs.Batches.{all_made};
+ghost use Rattle.draws.specs.Either.{book_of, coming_of};
+ghost use Rattle.offers.specs.Checked.{checked};
+ghost use Rattle.runs.specs.Tables.{plan_in};
+
 use crate::files::PlanFile;
 use crate::options::{Command, Options, file_name};
 use anyhow::Context;
@@ -8,6 +14,7 @@ use describe::batches::ShownBatch;
 use draws::either::Source;
 use logs::Log;
 use plan::handed::Handed;
+use rows::refusal::Refusal;
 use std::env::Args;
 use std::num::NonZeroUsize;
 
@@ -42,6 +49,31 @@ impl<'a> Watch for Progress<'a> {
     }
 }
 
+// Fills rows, one for each identifier. They are lent to a call of its own: what a `Vec` lends to a log
+// comes back with nothing known of it.
+fn fill_rows(
+    rt: &HostRuntime,
+    handed: Handed<'_>,
+    source: &mut Source<'_>,
+    identifiers: &[u32],
+    limits: Limits,
+    rows: &mut [BatchRow],
+) -> Result<(), Refusal>
+    requires { length rows.old ≡ length identifiers.now }
+    ensures { let plan = plan_in (checked handed.entry) in
+        OnOk result (rows.new ≡
+            (all_made plan (book_of source.old) (coming_of source.old) limits identifiers.now).rows) }
+{
+    let mut log = Log::new(rows);
+    let mut watch = Progress {
+        rt,
+        done: 0,
+        rows: identifiers.len(),
+        every: rows_between(identifiers.len(), limits.runs),
+    };
+    batch(handed, source, identifiers, limits, &mut log, &mut watch)
+}
+
 // The rows of all identifiers.
 fn rows_of(
     rt: &HostRuntime,
@@ -49,16 +81,13 @@ fn rows_of(
     source: &mut Source<'_>,
     identifiers: &[u32],
     limits: Limits,
-) -> anyhow::Result<Vec<BatchRow>> {
+) -> anyhow::Result<Vec<BatchRow>>
+    ensures { let plan = plan_in (checked handed.entry) in
+        IfOk result (λ rows. rows.items ≡
+            (all_made plan (book_of source.old) (coming_of source.old) limits identifiers.now).rows) }
+{
     let mut rows = vec![in rt.alloc(); BatchRow::default(); identifiers.len()]?;
-    let mut log = Log::new(&mut rows);
-    let mut watch = Progress {
-        rt,
-        done: 0,
-        rows: identifiers.len(),
-        every: rows_between(identifiers.len(), limits.runs),
-    };
-    batch(handed, source, identifiers, limits, &mut log, &mut watch)?;
+    fill_rows(rt, handed, source, identifiers, limits, &mut rows)?;
     Ok(rows)
 }
 

@@ -1,4 +1,9 @@
 // Plan files, the tables that they are read into, and other files.
+ghost use Rattle.std.specs.Prelude.{◌≡◌, IfOk};
+ghost use Rattle.plan.specs.Handed.{held_by};
+ghost use Rattle.reader.specs.Owned.{zero_rows};
+ghost use Rattle.rows.specs.Plans.{counts_of};
+
 use anyhow::anyhow;
 use describe::faults::Refused;
 use plan::handed::{Handed, Tables};
@@ -16,8 +21,12 @@ pub struct PlanFile {
 }
 
 impl PlanFile {
+    ghost use Rattle.junction.specs.Files.{ReadAs, largest, rows_in};
+
     // Tables with default rows, as many as the largest plan has.
-    pub fn new(heap: Global) -> Result<PlanFile, AllocError> {
+    pub fn new(heap: Global) -> Result<PlanFile, AllocError>
+        ensures { IfOk result (λ file. rows_in file ≡ zero_rows largest) }
+    {
         Ok(PlanFile {
             rows: OwnedTables::of(heap, Counts::largest())?,
         })
@@ -34,19 +43,33 @@ impl PlanFile {
         }
     }
 
-    // Reads a plan file, or answers the rule that it breaks. The fault stands inside: it is told on standard output, and is no error of the program.
+    // Reads a plan file, or answers the rule that it breaks.
     pub fn load(rt: &HostRuntime, path: &str) -> anyhow::Result<Result<PlanFile, Fault>> {
         let bytes = fs::read(rt, path).map_err(|e| anyhow!("cannot read {path}: {e}"))?;
-        let mut file = PlanFile::new(rt.alloc())?;
-        let read = file.rows.read(&bytes).map(|counts| {
-            file.rows.cut(&counts);
-            file
-        });
-        Ok(read)
+        Ok(PlanFile::of_bytes(rt.alloc(), &bytes)?)
+    }
+
+    // The plan whose file these bytes are, or the rule that they break. The fault stands inside: it is
+    // told on standard output, and is no error of the program.
+    pub fn of_bytes(heap: Global, bytes: &[u8]) -> Result<Result<PlanFile, Fault>, AllocError>
+        ensures { IfOk result (ReadAs bytes.now) }
+    {
+        let mut file = PlanFile::new(heap)?;
+        match file.rows.read(bytes) {
+            Ok(counts) => {
+                file.rows.cut(&counts);
+                Ok(Ok(file))
+            }
+            // Bytes that are refused have a fault.
+            Err(_) => Ok(Err(file.rows.fault_in(bytes).unwrap())),
+        }
     }
 
     // The rows of the plan, and how many of each there are.
-    pub fn handed(&self) -> Handed<'_> {
+    pub fn handed(&self) -> Handed<'_>
+        ensures rows { held_by result.tables ≡ rows_in self.now }
+        ensures counts { result.counts ≡ counts_of (rows_in self.now) }
+    {
         let tables = self.tables();
         Handed {
             tables,
@@ -55,7 +78,9 @@ impl PlanFile {
     }
 
     // The rows of the plan.
-    pub fn tables(&self) -> Tables<'_> {
+    pub fn tables(&self) -> Tables<'_>
+        ensures { held_by result ≡ rows_in self.now }
+    {
         self.rows.view()
     }
 }

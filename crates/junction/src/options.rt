@@ -1,5 +1,11 @@
 // The options of the commands that run a plan.
-ghost use Rattle.std.specs.Prelude.{◌≤◌, IfOk};
+ghost use Rattle.std.specs.Prelude.{◌≡◌, ◌≤◌, Some, None, IfOk, IfSome, OnErr, string_bytes};
+ghost use Rattle.std.specs.Option.{option_map};
+ghost use Rattle.std.specs.Result.{result_ok};
+ghost use Rattle.describe.specs.Identifiers.{Lists};
+ghost use Rattle.describe.specs.Names.{Names};
+ghost use Rattle.describe.specs.Words.{Writes};
+ghost use Rattle.junction.specs.Options.{draws_for, ids_for};
 
 use crate::sources::Draws;
 use anyhow::{Context, anyhow};
@@ -33,8 +39,12 @@ impl fmt::Display for Command {
 }
 
 impl Command {
+    ghost use Rattle.junction.specs.Options.{steps_for};
+
     // How many steps a run has at the most where it is not said.
-    fn steps(self) -> u32 {
+    fn steps(self) -> u32
+        ensures { result ≡ steps_for self }
+    {
         match self {
             Command::Batch => 1_000,
             Command::Replay | Command::Run => 100,
@@ -80,19 +90,24 @@ struct Asked<'a> {
 
 impl<'a> Asked<'a> {
     // Its value.
-    fn value(self) -> anyhow::Result<&'a str> {
+    fn value(self) -> anyhow::Result<&'a str>
+        ensures { IfOk result (λ word. self.entry.value ≡ Some word) }
+    {
         let name = self.name;
         self.value.context(format_args!("{name} takes a value"))
     }
 
     // Its value, a text.
-    fn text(self) -> anyhow::Result<String> {
+    fn text(self) -> anyhow::Result<String>
+        ensures { IfOk result (λ text. IfSome self.entry.value (λ word. string_bytes text ≡ word.now)) }
+    {
         Ok(String::from_str(self.heap, self.value()?)?)
     }
 
     // Its value, a number within limits.
     fn number(self, least: u32, most: u32) -> anyhow::Result<u32>
-        ensures { IfOk result (λ n. (least ≤ n) × (n ≤ most)) }
+        ensures within { IfOk result (λ n. (least ≤ n) × (n ≤ most)) }
+        ensures read { IfOk result (λ n. IfSome self.entry.value (λ word. Writes word.now n)) }
     {
         let name = self.name;
         let value = self.value()?;
@@ -102,7 +117,9 @@ impl<'a> Asked<'a> {
     }
 
     // Its value, a scheduler.
-    fn scheduler(self) -> anyhow::Result<Chooser> {
+    fn scheduler(self) -> anyhow::Result<Chooser>
+        ensures { IfOk result (λ s. IfSome self.entry.value (λ word. Names word.now s)) }
+    {
         let name = self.name;
         let value = self.value()?;
         named_scheduler(value).context(format_args!(
@@ -111,7 +128,9 @@ impl<'a> Asked<'a> {
     }
 
     // Its value, a list of identifiers.
-    fn identifiers(self) -> anyhow::Result<Vec<u32>> {
+    fn identifiers(self) -> anyhow::Result<Vec<u32>>
+        ensures { IfOk result (λ ids. IfSome self.entry.value (λ word. Lists word.now ids.items)) }
+    {
         let name = self.name;
         let value = self.value()?;
         identifiers(self.heap, value)?.context(format_args!(
@@ -120,7 +139,10 @@ impl<'a> Asked<'a> {
     }
 
     // Keeps what it says. It may say it once.
-    fn keep<T: Drop>(self, place: &mut Option<T>, value: T) -> anyhow::Result<()> {
+    fn keep<T: Drop>(self, place: &mut Option<T>, value: T) -> anyhow::Result<()>
+        ensures kept { IfOk result (λ _. (place.old ≡ None) × (place.new ≡ Some value)) }
+        ensures once { OnErr result (place.new ≡ place.old) }
+    {
         let name = self.name;
         if place.is_some() {
             return Err(anyhow!("{name} is given twice"));
@@ -138,6 +160,8 @@ impl<'a> Asked<'a> {
 }
 
 impl Given {
+    ghost use Rattle.junction.specs.Options.{GoesBy};
+
     // Takes one option of a command.
     fn take(&mut self, asked: Asked<'_>) -> anyhow::Result<()> {
         match (asked.name, asked.command) {
@@ -162,7 +186,9 @@ impl Given {
     }
 
     // What a command goes by where something is not given.
-    fn options(self, heap: Global, command: Command) -> anyhow::Result<Options> {
+    fn options(self, heap: Global, command: Command) -> anyhow::Result<Options>
+        ensures { IfOk result (GoesBy self command) }
+    {
         let Given {
             seed,
             tape,
@@ -189,7 +215,9 @@ impl Given {
 }
 
 // The identifiers that are given, or the first ten.
-fn given_or_ten(heap: Global, given: Option<Vec<u32>>) -> anyhow::Result<Vec<u32>> {
+fn given_or_ten(heap: Global, given: Option<Vec<u32>>) -> anyhow::Result<Vec<u32>>
+    ensures { IfOk result (λ ids. ids.items ≡ ids_for (option_map (λ v. v.items) given)) }
+{
     match given {
         Some(identifiers) => Ok(identifiers),
         None => Ok((0..10).collect(heap)?),
@@ -201,7 +229,9 @@ fn draws(
     seed: Option<u32>,
     tape: Option<String>,
     row_length: Option<u32>,
-) -> anyhow::Result<Draws<String>> {
+) -> anyhow::Result<Draws<String>>
+    ensures { result_ok result ≡ draws_for seed tape row_length }
+{
     match (seed, tape, row_length) {
         (Some(_), Some(_), _) => Err(anyhow!("--seed and --tape do not go together")),
         (_, None, Some(_)) => Err(anyhow!("--row-length goes with --tape")),

@@ -1,4 +1,13 @@
 // Makes the calls of a list and tells what each replies.
+ghost use Rattle.std.specs.Prelude.{◌≡◌, map, length, IfOk, OnOk};
+ghost use Rattle.draws.specs.Either.{coming_of};
+ghost use Rattle.offers.specs.Checked.{checked};
+ghost use Rattle.run.specs.Calls.{calls_of, entry_of};
+ghost use Rattle.runs.specs.Runs.{opening, told_of};
+ghost use Rattle.runs.specs.Tables.{plan_in};
+ghost use Rattle.schedulers.specs.Choosers.{meaning_of};
+ghost use Rattle.junction.specs.Replays.{LinesAsk};
+
 use crate::files::{PlanFile, text_of};
 use crate::options::{Command, Options, file_name};
 use anyhow::{Context, anyhow};
@@ -7,19 +16,22 @@ use describe::entries::ShownEntry;
 use draws::either::Source;
 use logs::Log;
 use plan::handed::Handed;
+use rows::refusal::Refusal;
 use run::call::{Call, Entry};
 use run::replay::replay;
 use schedulers::chooser::Chooser;
+use std::alloc::Global;
 use std::env::Args;
 
 // The most calls that a file may have.
 const MOST_CALLS: usize = 10_000;
 
-// The calls of a file, one to a line.
-fn calls_in(rt: &HostRuntime, path: &str) -> anyhow::Result<Vec<Call<Chooser>>> {
-    let text = text_of(rt, path)?;
-    let mut calls = Vec::new(rt.alloc());
-    for line in text.as_str().lines() {
+// The calls that the text of a file asks for, one to a line. The path is told where a line is no call.
+fn calls_for(heap: Global, path: &str, text: &str) -> anyhow::Result<Vec<Call<Chooser>>>
+    ensures { IfOk result (λ calls. LinesAsk text.now calls.items) }
+{
+    let mut calls = Vec::new(heap);
+    for line in text.lines() {
         let number = calls.len() + 1;
         if number > MOST_CALLS {
             return Err(anyhow!("{path} has more than {MOST_CALLS} calls"));
@@ -30,16 +42,36 @@ fn calls_in(rt: &HostRuntime, path: &str) -> anyhow::Result<Vec<Call<Chooser>>> 
     Ok(calls)
 }
 
+// Fills rows with what is told of each call. They are lent to a call of its own: what a `Vec` lends to
+// a log comes back with nothing known of it.
+fn fill_entries(
+    handed: Handed<'_>,
+    source: &mut Source<'_>,
+    calls: &[Call<Chooser>],
+    rows: &mut [Entry],
+) -> Result<(), Refusal>
+    requires { length rows.old ≡ length calls.now }
+    ensures { let plan = plan_in (checked handed.entry) in
+        OnOk result (map entry_of rows.new ≡
+            told_of plan (opening plan (coming_of source.old)) (calls_of meaning_of calls.now)) }
+{
+    let mut log = Log::new(rows);
+    replay(handed, source, calls, &mut log)
+}
+
 // The entry of each call of a list.
 pub fn entries_of(
     rt: &HostRuntime,
     handed: Handed<'_>,
     source: &mut Source<'_>,
     calls: &[Call<Chooser>],
-) -> anyhow::Result<Vec<Entry>> {
+) -> anyhow::Result<Vec<Entry>>
+    ensures { let plan = plan_in (checked handed.entry) in
+        IfOk result (λ entries. map entry_of entries.items ≡
+            told_of plan (opening plan (coming_of source.old)) (calls_of meaning_of calls.now)) }
+{
     let mut rows = vec![in rt.alloc(); Entry::blank(); calls.len()]?;
-    let mut log = Log::new(&mut rows);
-    replay(handed, source, calls, &mut log)?;
+    fill_entries(handed, source, calls, &mut rows)?;
     Ok(rows)
 }
 
@@ -50,7 +82,8 @@ pub fn replay_file(rt: &HostRuntime, mut args: Args) -> anyhow::Result<()> {
         .context("replay takes two files: junction replay PLAN CALLS")?;
     let options = Options::read(rt.alloc(), Command::Replay, args)?;
     let file = PlanFile::open(rt, plan.as_str())?;
-    let calls = calls_in(rt, path.as_str())?;
+    let text = text_of(rt, path.as_str())?;
+    let calls = calls_for(rt.alloc(), path.as_str(), text.as_str())?;
     let draws = options.draws.load(rt)?;
     let entries = entries_of(rt, file.handed(), &mut draws.source(), &calls)?;
     for entry in entries.iter() {

@@ -1,4 +1,7 @@
 // Where the draws of a run come from.
+ghost use Rattle.std.specs.Prelude.{◌≡◌};
+ghost use Rattle.draws.specs.Either.{book_of, coming_of};
+
 use crate::files::text_of;
 use anyhow::Context;
 use describe::numbers::number;
@@ -44,8 +47,13 @@ impl Draws<String> {
 }
 
 impl Draws<Vec<u32>> {
+    ghost use Rattle.junction.specs.Sources.{rows_of};
+
     // The source of the draws, at its first row.
-    pub fn source(&self) -> Source<'_> {
+    pub fn source(&self) -> Source<'_>
+        ensures rows { book_of result ≡ rows_of self.now }
+        ensures at_row_0 { coming_of result ≡ rows_of self.now 0 }
+    {
         match self {
             Draws::Seed(seed) => Source::Computed(Congruential::new(*seed)),
             Draws::Tape {

@@ -1,4 +1,9 @@
 // Walks a plan's timers through waits and resets, and prints the region after each.
+ghost use Rattle.std.specs.Prelude.{◌≡◌, ℕ, ◌^◌, true, is_err, MatchOption};
+ghost use Rattle.region.specs.Viewed.{viewed};
+ghost use Rattle.junction.specs.Walks.{AskMove, NamesBits, NamesTimer, moved};
+ghost use Rattle.junction.specs.declared.walk.Move.{Move};
+
 use crate::files::PlanFile;
 use anyhow::Context;
 use describe::faults::ShownRefusal;
@@ -17,13 +22,19 @@ enum Move {
 
 // Numbers of a walk may begin with a sign, as `+3`, so they are read by `parse` and not by `number`, which takes digits alone.
 // The bit of a timer that is written as x0, x1 and so on.
-fn timer_bit(word: &str) -> Option<u16> {
+fn timer_bit(word: &str) -> Option<u16>
+    ensures { MatchOption result ((timer : ℕ) → NamesTimer word.now timer → ⊥)
+        (λ bit. (timer : ℕ) × NamesTimer word.now timer × (bit ≡ 2 ^ timer)) }
+{
     let timer = word.strip_prefix('x')?.parse::<u32>().ok()?;
     1u16.checked_shl(timer)
 }
 
 // The timers that are written as x0,x1.
-fn timer_bits(words: &str) -> Option<u16> {
+fn timer_bits(words: &str) -> Option<u16>
+    ensures { MatchOption result ((bits : ℕ) → NamesBits words.now bits → ⊥)
+        (λ bits. NamesBits words.now bits) }
+{
     let mut bits = 0;
     for word in words.split(',') {
         bits |= timer_bit(word)?;
@@ -32,7 +43,10 @@ fn timer_bits(words: &str) -> Option<u16> {
 }
 
 // The move that two words ask for, if they ask for one. No FromStr, which reads one word.
-fn parsed(name: &str, value: &str) -> Option<Move> {
+fn parsed(name: &str, value: &str) -> Option<Move>
+    ensures { MatchOption result ((m : Move) → AskMove name.now value.now m → ⊥)
+        (λ m. AskMove name.now value.now m) }
+{
     match name {
         "wait" => Some(Move::Wait(value.parse::<u32>().ok()?)),
         "reset" => Some(Move::Reset(timer_bits(value)?)),
@@ -41,7 +55,10 @@ fn parsed(name: &str, value: &str) -> Option<Move> {
 }
 
 // Makes a move from a region.
-fn made(region: &mut Region, m: Move, ceilings: &[TimerRow]) -> Result<(), Refusal> {
+fn made(region: &mut Region, m: Move, ceilings: &[TimerRow]) -> Result<(), Refusal>
+    ensures answer { moved ceilings.now m (viewed region.old) ≡ (result, viewed region.new) }
+    ensures refused_unchanged { is_err result ≡ true → region.new ≡ region.old }
+{
     match m {
         Move::Wait(steps) => region.wait(steps, ceilings),
         Move::Reset(timers) => region.reset(timers),

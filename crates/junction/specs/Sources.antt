@@ -1,0 +1,14 @@
+-- The draws that were asked for.
+use Rattle.std.specs.Prelude.{ℕ}
+use Rattle.std.specs.declared.alloc.Global.{Global}
+use Rattle.std.specs.declared.vec.Vec.{Vec}
+use Rattle.draws.specs.Computed.{computed}
+use Rattle.draws.specs.Recorded.{recorded}
+use Rattle.runs.specs.Runs as runs
+use Rattle.junction.specs.declared.sources.Draws.{Draws}
+use Rattle.junction.specs.declared.sources.Draws.TheVariants.{Seed, Tape}
+
+-- the rows of draws of a seed, or of recorded numbers in rows of one length
+abbrev pub rows_of : Draws (Vec ℕ Global) → ℕ → runs.Draws
+rows_of (Seed seed) = computed seed
+rows_of (Tape numbers row_length) = recorded numbers.items row_length
