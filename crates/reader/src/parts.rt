@@ -15,7 +15,7 @@ use rows::tables::{ChangeRow, ComparisonRow, GoalRow, OutcomeRow, StageRow, Time
 
 // The six sections of one file.
 #[derive(Clone, Copy)]
-pub struct Parts<'a> {
+pub(crate) struct Parts<'a> {
     pub timers: Section<'a>,
     pub comparisons: Section<'a>,
     pub stages: Section<'a>,
@@ -25,7 +25,7 @@ pub struct Parts<'a> {
 }
 
 // Takes a file apart, or says which section breaks a rule, or that bytes follow the last.
-pub fn split<'a>(rooms: &Counts, bytes: &'a [u8]) -> Result<Parts<'a>, Fault>
+fn split<'a>(rooms: &Counts, bytes: &'a [u8]) -> Result<Parts<'a>, Fault>
     ensures { MatchResult result
         (λ p. Split rooms.now bytes.now p)
         (λ f. layout_fault rooms.now section_names bytes.now ≡ Some f) }
@@ -92,7 +92,7 @@ impl<'a> Records for Parts<'a> {
 }
 
 // The parts of a file that breaks no rule, or the first rule that it breaks.
-pub fn sound_parts<'a>(rooms: &Counts, bytes: &'a [u8]) -> Result<Parts<'a>, Fault>
+pub(crate) fn sound_parts<'a>(rooms: &Counts, bytes: &'a [u8]) -> Result<Parts<'a>, Fault>
     ensures { MatchResult result
         (λ p. Passed rooms.now bytes.now p)
         (λ f. file_fault rooms.now bytes.now ≡ Some f) }

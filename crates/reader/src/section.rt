@@ -13,7 +13,7 @@ use rows::section::{Counts, SectionName};
 
 // A section as the part of the file that its records fill. The project fixes this form: an enum whose cases hold parts of the file.
 #[derive(Clone, Copy)]
-pub enum Section<'a> {
+pub(crate) enum Section<'a> {
     Timers(&'a [u8]),
     Comparisons(&'a [u8]),
     Stages(&'a [u8]),
@@ -68,7 +68,7 @@ fn check_part(name: SectionName, room: usize, bytes: &[u8]) -> Result<(), Refusa
 }
 
 // Cuts a section off the front of the bytes: its count, then its records.
-pub fn cut<'a>(
+pub(crate) fn cut<'a>(
     name: SectionName,
     rooms: &Counts,
     bytes: &'a [u8],
