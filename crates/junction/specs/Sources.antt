@@ -1,5 +1,5 @@
 -- The draws that were asked for.
-use Rattle.std.specs.Prelude.{ℕ}
+use Rattle.std.specs.Prelude.{◌≡◌, ℕ}
 use Rattle.std.specs.declared.alloc.Global.{Global}
 use Rattle.std.specs.declared.vec.Vec.{Vec}
 use Rattle.draws.specs.Computed.{computed}
@@ -12,3 +12,9 @@ use Rattle.junction.specs.declared.sources.Draws.TheVariants.{Seed, Tape}
 abbrev pub rows_of : Draws (Vec ℕ Global) → ℕ → runs.Draws
 rows_of (Seed seed) = computed seed
 rows_of (Tape numbers row_length) = recorded numbers.items row_length
+
+-- where a tape has been read there are numbers for its path; the seed and the row length stay
+abbrev pub Loaded : {T : Type 0} → Draws T → Draws (Vec ℕ Global) → Type 0
+Loaded (Seed seed) draws = draws ≡ Seed seed
+Loaded (Tape path row_length) draws =
+    (numbers : Vec ℕ Global) × (draws ≡ Tape numbers row_length)

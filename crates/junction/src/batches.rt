@@ -62,7 +62,7 @@ fn fill_rows(
     requires { length rows.old ≡ length identifiers.now }
     ensures { let plan = plan_in (checked handed.entry) in
         OnOk result (rows.new ≡
-            (all_made plan (book_of source.old) (coming_of source.old) limits identifiers.now).rows) }
+        (all_made plan (book_of source.old) (coming_of source.old) limits identifiers.now).rows) }
 {
     let mut log = Log::new(rows);
     let mut watch = Progress {
@@ -84,7 +84,7 @@ fn rows_of(
 ) -> anyhow::Result<Vec<BatchRow>>
     ensures { let plan = plan_in (checked handed.entry) in
         IfOk result (λ rows. rows.items ≡
-            (all_made plan (book_of source.old) (coming_of source.old) limits identifiers.now).rows) }
+        (all_made plan (book_of source.old) (coming_of source.old) limits identifiers.now).rows) }
 {
     let mut rows = vec![in rt.alloc(); BatchRow::default(); identifiers.len()]?;
     fill_rows(rt, handed, source, identifiers, limits, &mut rows)?;

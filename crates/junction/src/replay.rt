@@ -53,7 +53,7 @@ fn fill_entries(
     requires { length rows.old ≡ length calls.now }
     ensures { let plan = plan_in (checked handed.entry) in
         OnOk result (map entry_of rows.new ≡
-            told_of plan (opening plan (coming_of source.old)) (calls_of meaning_of calls.now)) }
+        told_of plan (opening plan (coming_of source.old)) (calls_of meaning_of calls.now)) }
 {
     let mut log = Log::new(rows);
     replay(handed, source, calls, &mut log)
@@ -68,7 +68,7 @@ pub fn entries_of(
 ) -> anyhow::Result<Vec<Entry>>
     ensures { let plan = plan_in (checked handed.entry) in
         IfOk result (λ entries. map entry_of entries.items ≡
-            told_of plan (opening plan (coming_of source.old)) (calls_of meaning_of calls.now)) }
+        told_of plan (opening plan (coming_of source.old)) (calls_of meaning_of calls.now)) }
 {
     let mut rows = vec![in rt.alloc(); Entry::blank(); calls.len()]?;
     fill_entries(handed, source, calls, &mut rows)?;

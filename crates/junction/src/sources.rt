@@ -1,5 +1,5 @@
 // Where the draws of a run come from.
-ghost use Rattle.std.specs.Prelude.{◌≡◌};
+ghost use Rattle.std.specs.Prelude.{◌≡◌, IfOk};
 ghost use Rattle.draws.specs.Either.{book_of, coming_of};
 
 use crate::files::text_of;
@@ -31,8 +31,12 @@ fn numbers_in(rt: &HostRuntime, path: &str) -> anyhow::Result<Vec<u32>> {
 }
 
 impl Draws<String> {
+    ghost use Rattle.junction.specs.Sources.{Loaded};
+
     // Reads the numbers of a tape; a seed needs no reading.
-    pub fn load(self, rt: &HostRuntime) -> anyhow::Result<Draws<Vec<u32>>> {
+    pub fn load(self, rt: &HostRuntime) -> anyhow::Result<Draws<Vec<u32>>>
+        ensures { IfOk result (Loaded self) }
+    {
         match self {
             Draws::Seed(seed) => Ok(Draws::Seed(seed)),
             Draws::Tape {
