@@ -25,4 +25,5 @@ parts_of word = slice_split (λ b. b == 44) word
 
 -- a word lists at most 1000 numbers: FIRST..LAST, or one number between each two commas
 abbrev pub Lists : List ℕ → List ℕ → Type 0
-Lists word numbers = (length numbers ≤ 1000) × (CountsUp word numbers ⊎ WriteAll (parts_of word) numbers)
+Lists word numbers =
+    (length numbers ≤ 1000) × (CountsUp word numbers ⊎ WriteAll (parts_of word) numbers)

@@ -46,7 +46,8 @@ fn first_words(line: &str) -> (Option<&str>, Option<&str>, Option<&str>, Option<
 
 // The call that a line asks for, if it asks for one.
 pub fn call(line: &str) -> Option<Call<Chooser>>
-    ensures { MatchOption result ((c : Call Chooser) → Asks line.now c → ⊥) (λ c. Asks line.now c) }
+    ensures { MatchOption result ((c : Call Chooser) → Asks line.now c → ⊥)
+        (λ c. Asks line.now c) }
 {
     match first_words(line) {
         (Some("take"), Some(change), Some(wait), None) => take(change, wait),

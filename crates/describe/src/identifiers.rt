@@ -22,7 +22,8 @@ fn counted(heap: Global, first: u32, last: u32) -> Result<Option<Vec<u32>>, Allo
 // The identifiers of a list with commas.
 fn listed(heap: Global, word: &str) -> Result<Option<Vec<u32>>, AllocError>
     ensures { let parts = parts_of word.now in
-        IfOk result (λ o. MatchOption o ((ids : List ℕ) → length ids ≤ 1000 → WriteAll parts ids → ⊥)
+        IfOk result (λ o. MatchOption o
+        ((ids : List ℕ) → length ids ≤ 1000 → WriteAll parts ids → ⊥)
         (λ v. WriteAll parts v.items × (length v.items ≤ 1000))) }
 {
     let mut identifiers = Vec::new(heap);

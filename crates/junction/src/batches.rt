@@ -49,8 +49,8 @@ impl<'a> Watch for Progress<'a> {
     }
 }
 
-// Fills rows, one for each identifier. They are lent to a call of its own: what a `Vec` lends to a log
-// comes back with nothing known of it.
+// Fills rows, one for each identifier. They are lent to a call of its own: what a `Vec` lends to
+// a log comes back with nothing known of it.
 fn fill_rows(
     rt: &HostRuntime,
     handed: Handed<'_>,

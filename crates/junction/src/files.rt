@@ -49,8 +49,8 @@ impl PlanFile {
         Ok(PlanFile::of_bytes(rt.alloc(), &bytes)?)
     }
 
-    // The plan whose file these bytes are, or the rule that they break. The fault stands inside: it is
-    // told on standard output, and is no error of the program.
+    // The plan whose file these bytes are, or the rule that they break. The fault stands inside:
+    // it is told on standard output, and is no error of the program.
     pub fn of_bytes(heap: Global, bytes: &[u8]) -> Result<Result<PlanFile, Fault>, AllocError>
         ensures { IfOk result (ReadAs bytes.now) }
     {

@@ -99,7 +99,8 @@ impl<'a> Asked<'a> {
 
     // Its value, a text.
     fn text(self) -> anyhow::Result<String>
-        ensures { IfOk result (λ text. IfSome self.entry.value (λ word. string_bytes text ≡ word.now)) }
+        ensures { IfOk result (λ text. IfSome self.entry.value
+            (λ word. string_bytes text ≡ word.now)) }
     {
         Ok(String::from_str(self.heap, self.value()?)?)
     }

@@ -26,7 +26,8 @@ use std::env::Args;
 // The most calls that a file may have.
 const MOST_CALLS: usize = 10_000;
 
-// The calls that the text of a file asks for, one to a line. The path is told where a line is no call.
+// The calls that the text of a file asks for, one to a line.
+// The path is told where a line is no call.
 fn calls_for(heap: Global, path: &str, text: &str) -> anyhow::Result<Vec<Call<Chooser>>>
     ensures { IfOk result (λ calls. LinesAsk text.now calls.items) }
 {
@@ -42,8 +43,8 @@ fn calls_for(heap: Global, path: &str, text: &str) -> anyhow::Result<Vec<Call<Ch
     Ok(calls)
 }
 
-// Fills rows with what is told of each call. They are lent to a call of its own: what a `Vec` lends to
-// a log comes back with nothing known of it.
+// Fills rows with what is told of each call. They are lent to a call of its own: what a `Vec`
+// lends to a log comes back with nothing known of it.
 fn fill_entries(
     handed: Handed<'_>,
     source: &mut Source<'_>,
