@@ -4,7 +4,7 @@ ghost use Rattle.batch.specs.Batches.{counted, first_runs, none_yet, one_more, s
 ghost use Rattle.batch.specs.Progresses.{progress_of};
 ghost use Rattle.batch.specs.Promised.{runs_in};
 ghost use Rattle.offers.specs.Known.{plan_of};
-ghost use Rattle.run.specs.Views.{GoesOn, plan_for, view_of};
+ghost use Rattle.run.specs.Views.{KeepsPlanAndSource, plan_for, view_of};
 ghost use Rattle.schedulers.specs.Meanings.{sampled_by};
 
 use crate::BatchRow;
@@ -50,7 +50,7 @@ impl BatchRow {
 fn steps_granted<D: DrawSource>(run: &mut Run<'_, '_, D>, scheduler: &Sampled, most: u32) -> u32
     ensures stepped { stepped (plan_for run.old) (sampled_by scheduler.now.identifier) most (view_of D.DrawSource.coming run.old) ≡ (view_of D.DrawSource.coming run.new, result) }
     ensures no_more { result ≤ most }
-    ensures goes_on { GoesOn D.DrawSource.book run.old run.new }
+    ensures keeps_plan_and_source { KeepsPlanAndSource D.DrawSource.book run.old run.new }
 {
     for granted in 0..most {
         if run.step(scheduler).is_err() {

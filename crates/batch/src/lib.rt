@@ -53,7 +53,9 @@ pub const LARGEST: Limits = Limits {
 // The most identifiers that a batch may have.
 pub const MOST_IDENTIFIERS: usize = 1_000;
 
-// Runs every identifier as often as the limits say, on handed tables and the first rows of a source, and enters a row for each. Where a number is off its limits, or the log has no room for all rows, it is refused before anything is done.
+// Runs every identifier as often as the limits say, on handed tables and the first rows of a
+// source, and enters a row for each. Where a number is off its limits, or the log has no room for
+// all rows, it is refused before anything is done.
 #[tactic(auto, using(crate::proofs::Sums::the_four_counts_sum, crate::proofs::Alone::counts_each_by_itself))]
 pub fn batch<'p, D: DrawSource, W: Watch>(
     handed: Handed<'p>,

@@ -1,4 +1,4 @@
--- Computed rows are endless, and recorded ones are finite.
+-- Computed rows, and recorded ones, are finite or endless.
 use Rattle.std.specs.Prelude.{◌≡◌, ℕ, zero, suc, List, [], ◌∷◌, Some, None, refl}
 use Rattle.std.proofs.Common.{arith}
 use Rattle.draws.specs.Computed.{endless, iterated}
@@ -9,13 +9,13 @@ use Rattle.draws.specs.Sources.{FiniteOrEndless}
 pub endless_ends : (h : ℕ) → FiniteOrEndless (endless h)
 endless_ends h j k later none = let s : Some (iterated (suc j) h) ≡ None = none in cc
 
--- the draws of a list end with it
+-- behind the draws of a list there is none
 pub listed_ends : (xs : List ℕ) → FiniteOrEndless (listed xs)
 listed_ends [] j k later none = refl
 listed_ends (x ∷ xs) zero k later none = let s : Some x ≡ None = none in cc
 listed_ends (x ∷ xs) (suc j) zero later none = absurd (omega arith)
 listed_ends (x ∷ xs) (suc j) (suc k) later none = listed_ends xs j k (omega arith) none
 
--- and so do recorded rows
+-- and so it is of recorded rows
 pub recorded_ends : (n : ℕ) (xs : List ℕ) (row : ℕ) → FiniteOrEndless (recorded xs n row)
 recorded_ends n xs row = listed_ends (numbers_of xs n row)

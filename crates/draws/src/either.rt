@@ -10,8 +10,8 @@ use crate::source::DrawSource;
 use crate::tape::Tape;
 use rows::refusal::Refusal;
 
-// Computed or recorded draws, whichever were asked for where the program runs. A closed list and no `&mut dyn`: there are these two kinds only,
-// and a source of either is one value, copied and compared as it stands.
+// Computed or recorded draws, whichever were asked for where the program runs. A closed list and
+// no `&mut dyn`: there are these two kinds only, and a source of either is one value.
 #[derive(Clone, Copy, Debug, PartialEq, Eq)]
 pub enum Source<'a> {
     Computed(Congruential),

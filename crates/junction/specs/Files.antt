@@ -3,25 +3,11 @@ use Rattle.std.specs.Prelude.{◌≡◌, ℕ, List, Some, None, Result}
 use Rattle.std.specs.Result.{MatchResult}
 use Rattle.reader.specs.Owned.{owned_in}
 use Rattle.rows.specs.declared.fault.Fault.{Fault}
-use Rattle.rows.specs.declared.section.Counts.{Counts}
-use Rattle.rows.specs.declared.section.SectionName.TheVariants.{Changes, Comparisons, Goal, Outcomes, Stages, Timers}
 use Rattle.rows.specs.Files.{file_fault}
 use Rattle.rows.specs.Plans.{PlanRows, file_of}
-use Rattle.rows.specs.Sections.{most_of}
+use Rattle.rows.specs.Sections.{largest}
 use Rattle.rows.specs.Sound.{Sound}
 use Rattle.junction.specs.declared.files.PlanFile.{PlanFile}
-
--- as many rows of each section as a plan may have
-abbrev pub largest : Counts
-largest =
-    record {
-      timers = most_of Timers;
-      comparisons = most_of Comparisons;
-      stages = most_of Stages;
-      changes = most_of Changes;
-      outcomes = most_of Outcomes;
-      goals = most_of Goal;
-    }
 
 -- the rows of the plan that was read
 abbrev pub rows_in : PlanFile → PlanRows

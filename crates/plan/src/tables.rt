@@ -4,7 +4,8 @@ ghost use Rattle.std.specs.Result.{result_err};
 ghost use Rattle.rows.specs.Plans.{counts_of};
 ghost use Rattle.rows.specs.Sections.{section_names};
 ghost use Rattle.rows.specs.Sound.{Fits, Sound};
-ghost use Rattle.rows.specs.Verdicts.{count_fault, first_broken, first_in, refusal_told, room_rules};
+ghost use Rattle.rows.specs.Verdicts.{count_fault, first_broken, first_in, room_rules};
+ghost use Rattle.rows.specs.Verdicts.{refusal_told};
 ghost use Rattle.plan.specs.Handed.{counted_in, fault_in, held_by};
 
 use crate::check::check_rows;

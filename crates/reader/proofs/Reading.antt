@@ -164,7 +164,7 @@ filled_read b p before later n h filled sizes e =
     let rows = filled_front p before later filled in
     subst (λ (m : Counts). Read b before later m) (sym e)
     (record {
-      fits = passed_clear (counts_of before) b p h;
+      breaks_none = passed_clear (counts_of before) b p h;
       file = filled_file (counts_of before) b p before later h.split filled ∙ ap file_of (sym rows);
       sound = subst Sound (sym rows) (passed_sound (counts_of before) b p h);
       counted = ap counts_of rows;

@@ -123,7 +123,7 @@ file_fault rooms b = or_else (layout_fault rooms section_names b) (rows_fault (p
 -- what reading a file into tables comes to: the file is that of a sound plan, which the first rows now hold, and the other rows stay
 pub record Read (bytes : List ℕ) (before later : PlanRows) (n : Counts) : Type 0 where
   -- the file breaks no rule where it is read into the tables as they were handed
-  pub fits : file_fault (counts_of before) bytes ≡ None
+  pub breaks_none : file_fault (counts_of before) bytes ≡ None
   pub file : bytes ≡ file_of (front n later)
   pub sound : Sound (front n later)
   pub counted : counts_of (front n later) ≡ n

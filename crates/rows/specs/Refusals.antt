@@ -39,7 +39,7 @@ refusals =
     ∷ BatchOffLimits
     ∷ []
 
--- the first of some refusals that has a number; where none has it, the last refusal of all
+-- the first of some refusals that has this number; where none has it, the last refusal of all
 abbrev pub first_with : ℕ → List Refusal → Refusal
 first_with n [] = BatchOffLimits
 first_with n (e ∷ more) = cond (number_of e == n) e (first_with n more)

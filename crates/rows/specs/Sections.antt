@@ -35,6 +35,18 @@ most_of Changes = 1024
 most_of Outcomes = 4096
 most_of Goal = 1
 
+-- as many rows of each section as a plan may have
+abbrev pub largest : Counts
+largest =
+    record {
+      timers = most_of Timers;
+      comparisons = most_of Comparisons;
+      stages = most_of Stages;
+      changes = most_of Changes;
+      outcomes = most_of Outcomes;
+      goals = most_of Goal;
+    }
+
 -- the number of rows of one section
 abbrev pub count_of : Counts → SectionName → ℕ
 count_of c Timers = c.timers

@@ -1,6 +1,6 @@
 // The six sections of a plan file, and one number for each of them.
 ghost use Rattle.std.specs.Prelude.{◌≡◌, Some};
-ghost use Rattle.rows.specs.Sections.{count_of, least_of, most_of, size_of, text_of};
+ghost use Rattle.rows.specs.Sections.{count_of, largest, least_of, most_of, size_of, text_of};
 
 use crate::tables::{ChangeRow, ComparisonRow, GoalRow, OutcomeRow, StageRow, TimerRow};
 use std::fmt;
@@ -39,7 +39,8 @@ pub struct Counts {
 impl Counts {
     // As many rows of each section as a plan may have.
     pub fn largest() -> Counts
-        ensures { (section : SectionName) → count_of result section ≡ most_of section }
+        ensures each_section { (section : SectionName) → count_of result section ≡ most_of section }
+        ensures all_sections { result ≡ largest }
     {
         Counts {
             timers: SectionName::Timers.most(),

@@ -25,8 +25,8 @@ pub record Allowed (p : PlanRows) (run : runs.Run) (c d : ℕ) (row : ChangeRow)
   pub its_row : change_of_row p row ≡ change_of (plan_in p) run.stage c
   pub in_hold : d ≤ runs.top (plan_in p) run.stage run.region
 
--- a run goes on: its plan and its source are those that it had, and the book of the source stays
-pub record GoesOn {D : Type 0} (book_of : D → ℕ → runs.Draws) (before then : Run D) : Type 0 where
+-- a run has the plan that it had, is lent the same source, and the source has the book that it had
+pub record KeepsPlanAndSource {D : Type 0} (book_of : D → ℕ → runs.Draws) (before then : Run D) : Type 0 where
   pub plan : then.plan ≡ before.plan
   pub book : book_of then.source.now ≡ book_of before.source.now
   pub lent : then.source.ghost_name ≡ before.source.ghost_name

@@ -19,7 +19,8 @@ mod take;
 use offers::sound_plan::Plan;
 use runs::{Standing, State};
 
-// A run has its plan, and borrows the source of its draws. While it lives both are reached by its calls only; once it is gone the source is the caller's again.
+// A run has its plan, and borrows the source of its draws. While it lives the source is reached by
+// its calls only; once it is gone the source is the caller's again.
 // What a call leaves as it was is said by each call: it holds of the run before and after, and no type of one run can keep it.
 #[derive(Drop)]
 pub struct Run<'p, 's, D> {

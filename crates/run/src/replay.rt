@@ -2,7 +2,7 @@
 ghost use Rattle.std.specs.Prelude.{◌≡◌, ◌≤◌, true, [], ◌∷◌, length, is_err};
 ghost use Rattle.offers.specs.Checked.{checked};
 ghost use Rattle.run.specs.Calls.{Entered, Replayed, blank_entry, call_of, calls_of, entry_of, reply_of};
-ghost use Rattle.run.specs.Views.{GoesOn, plan_for, view_of};
+ghost use Rattle.run.specs.Views.{KeepsPlanAndSource, plan_for, view_of};
 ghost use Rattle.runs.specs.Examples.{TheRulesGiveTheWorkedExamples};
 ghost use Rattle.logs.specs.Logs.{past_of};
 ghost use Rattle.runs.specs.Runs.{entry_after, make};
@@ -36,7 +36,7 @@ impl<D: DrawSource> Run<'_, '_, D> {
     fn make<S: Scheduler>(&mut self, call: &Call<S>) -> Entry
         ensures made { make (plan_for self.old) (view_of D.DrawSource.coming self.old) (call_of S.Scheduler.meaning call.now) ≡ (reply_of result.reply, view_of D.DrawSource.coming self.new) }
         ensures told { entry_of result ≡ entry_after (reply_of result.reply, view_of D.DrawSource.coming self.new) }
-        ensures goes_on { GoesOn D.DrawSource.book self.old self.new }
+        ensures keeps_plan_and_source { KeepsPlanAndSource D.DrawSource.book self.old self.new }
     {
         let reply = match call {
             Call::Step(scheduler) => Reply::Answered(self.step(scheduler)),
@@ -55,7 +55,7 @@ impl<D: DrawSource> Run<'_, '_, D> {
     fn enter<S: Scheduler>(&mut self, call: &Call<S>, log: &mut Log<'_, Entry>)
         requires { 1 ≤ length (past_of log.old) }
         ensures entered { Entered (plan_for self.old) (view_of D.DrawSource.coming self.old) (view_of D.DrawSource.coming self.new) (call_of S.Scheduler.meaning call.now ∷ []) log.old log.new }
-        ensures goes_on { GoesOn D.DrawSource.book self.old self.new }
+        ensures keeps_plan_and_source { KeepsPlanAndSource D.DrawSource.book self.old self.new }
         ensures same_rows { log.new.rows.ghost_name ≡ log.old.rows.ghost_name }
     {
         let entry = self.make(call);
@@ -67,7 +67,7 @@ impl<D: DrawSource> Run<'_, '_, D> {
     fn enter_all<S: Scheduler>(&mut self, calls: &[Call<S>], log: &mut Log<'_, Entry>)
         requires { length calls.now ≤ length (past_of log.old) }
         ensures entered { Entered (plan_for self.old) (view_of D.DrawSource.coming self.old) (view_of D.DrawSource.coming self.new) (calls_of S.Scheduler.meaning calls.now) log.old log.new }
-        ensures goes_on { GoesOn D.DrawSource.book self.old self.new }
+        ensures keeps_plan_and_source { KeepsPlanAndSource D.DrawSource.book self.old self.new }
         ensures same_rows { log.new.rows.ghost_name ≡ log.old.rows.ghost_name }
     {
         for call in calls {
@@ -76,7 +76,9 @@ impl<D: DrawSource> Run<'_, '_, D> {
     }
 }
 
-// Opens a run on handed tables and a source, makes every call of a list, and enters each reply, with where the run is then, in a log. Where the log has no room for all of them it is refused before anything is done.
+// Opens a run on handed tables and a source, makes every call of a list, and enters each reply,
+// with where the run is then, in a log. Where the log has no room for all of them it is refused
+// before anything is done.
 #[tactic(auto, using(runs::proofs::Worked::the_rules_give_the_worked_examples))]
 pub fn replay<'p, S: Scheduler, D: DrawSource>(
     handed: Handed<'p>,

@@ -1,6 +1,6 @@
 // A step by a scheduler.
 ghost use Rattle.std.specs.Prelude.{◌≡◌, true, [], is_err};
-ghost use Rattle.run.specs.Views.{GoesOn, Kept, plan_for, view_of};
+ghost use Rattle.run.specs.Views.{KeepsPlanAndSource, Kept, plan_for, view_of};
 ghost use Rattle.runs.specs.Runs.{ran_out, step_call};
 ghost use Rattle.runs.specs.declared.Answer.TheVariants.{RanOut};
 
@@ -30,7 +30,7 @@ impl<D: DrawSource> Run<'_, '_, D> {
     #[tactic(auto, using(runs::proofs::Choosing::step_not_open, runs::proofs::Choosing::step_runs_out, crate::proofs::Chosen::none_listed))]
     pub fn step<S: Scheduler>(&mut self, scheduler: &S) -> Result<Answer, Refusal>
         ensures answer { step_call (plan_for self.old) (S.Scheduler.meaning scheduler.now) (view_of D.DrawSource.coming self.old) ≡ (result, view_of D.DrawSource.coming self.new) }
-        ensures goes_on { GoesOn D.DrawSource.book self.old self.new }
+        ensures keeps_plan_and_source { KeepsPlanAndSource D.DrawSource.book self.old self.new }
         ensures refused_unchanged { is_err result ≡ true → self.new ≡ self.old }
     {
         if !self.standing.is_open() {

@@ -3,7 +3,7 @@ ghost use Rattle.std.specs.Prelude.{◌≡◌, ◌≤◌, true, length, is_err, 
 ghost use Rattle.offers.specs.Known.{rows_of};
 ghost use Rattle.region.specs.Viewed.{viewed};
 ghost use Rattle.rows.specs.Sound.{SoundOutcome};
-ghost use Rattle.run.specs.Views.{Allowed, GoesOn, Kept, plan_for, view_of};
+ghost use Rattle.run.specs.Views.{Allowed, KeepsPlanAndSource, Kept, plan_for, view_of};
 ghost use Rattle.runs.specs.Cases.{TakenOrMet};
 ghost use Rattle.runs.specs.Runs.{InBounds, arriving, at_goal, drawing, goal_by, take_call, top};
 ghost use Rattle.runs.specs.Tables.{outcome_of_row};
@@ -102,7 +102,7 @@ impl<D: DrawSource> Run<'_, '_, D> {
         ensures answer { drawing (plan_for self.old) (view_of D.DrawSource.coming self.old)
             change wait (D.DrawSource.coming self.old.source.now 0)
             ≡ (result, view_of D.DrawSource.coming self.new) }
-        ensures goes_on { GoesOn D.DrawSource.book self.old self.new }
+        ensures keeps_plan_and_source { KeepsPlanAndSource D.DrawSource.book self.old self.new }
         ensures refused_unchanged { is_err result ≡ true → self.new ≡ self.old }
     {
         let draw = self.source.draw()?;
@@ -122,7 +122,7 @@ impl<D: DrawSource> Run<'_, '_, D> {
     pub fn take(&mut self, change: u16, wait: u32) -> Result<Answer, Refusal>
         ensures answer { take_call (plan_for self.old) (view_of D.DrawSource.coming self.old) change wait ≡ (result, view_of D.DrawSource.coming self.new) }
         ensures taken_or_met { IfOk result (TakenOrMet change wait) }
-        ensures goes_on { GoesOn D.DrawSource.book self.old self.new }
+        ensures keeps_plan_and_source { KeepsPlanAndSource D.DrawSource.book self.old self.new }
         ensures refused_unchanged { is_err result ≡ true → self.new ≡ self.old }
     {
         let row = self.allowed(change, wait)?;

@@ -34,8 +34,8 @@ fn shown(heap: Global, reply: Reply, words: &str) -> Result<bool, Fail> {
     Ok(text.as_str() == expected.as_str())
 }
 
-// What a stage that holds while x ≤ 6 offers at zero, with half a second to a step: change 0, for x ≤ 0, and change 2,
-// for x ≥ 4. Change 1, for x ≥ 7, comes too late.
+// What a stage that holds while x ≤ 6 offers at zero, with half a second to a step: change 0, for
+// x ≤ 0, and change 2, for x ≥ 4. Change 1, for x ≥ 7, comes too late.
 fn two_of_three() -> OfferList {
     let tables = Tables {
         timers: &[TimerRow { ceiling: 10 }],

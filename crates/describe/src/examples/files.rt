@@ -43,7 +43,7 @@ fn altered(edits: &[(usize, u8)]) -> [u8; 105] {
     bytes
 }
 
-// What comes of some bytes and some tables: the fault that is told of them, and the answer of a read.
+// What comes of bytes and tables: the fault that is told of them, and the answer of a read.
 #[derive(Clone, Copy, Debug, PartialEq, Eq)]
 pub struct Answered {
     pub fault: Option<Fault>,

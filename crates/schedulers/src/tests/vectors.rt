@@ -1,5 +1,5 @@
-// The published vectors of 32-bit FNV-1a: bytes and their hash, as they are listed in the test program of the FNV
-// reference distribution, by Landon Curt Noll.
+// The published vectors of 32-bit FNV-1a: bytes and their hash, as they are listed in the test
+// program of the FNV reference distribution, by Landon Curt Noll.
 pub static VECTORS: [(&[u8], u32); 114] = [
     (b"", 0x811c9dc5),
     (b"a", 0xe40c292c),

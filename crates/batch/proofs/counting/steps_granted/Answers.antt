@@ -30,5 +30,5 @@ loop-granted-preserved g c =
     let view = view_of g.D.DrawSource.coming in
     let f = sampled_by c.args.scheduler.now.identifier in
     let so_far = c.loop-granted.invariant.1 in
-    let then = c.step.ensures.goes_on in
+    let then = c.step.ensures.keeps_plan_and_source in
     (stepped_again (plan_for c.args.run.now) f c.loop-granted.granted (view c.args.run.now) (view c.loop-granted.run) (view c.step.new.self) c.step.result c.loop-granted.invariant.0 (made g (goal.at.loop-granted-preserved g c).After-step) (sym c.if-is_err.ensures.value), record { plan = then.plan ∙ so_far.plan; book = then.book ∙ so_far.book; lent = then.lent ∙ so_far.lent })
