@@ -1,3 +1,3 @@
-mod Counted
 mod Each
 mod Filled
+mod Whole

@@ -10,8 +10,8 @@ use Rattle.rows.specs.Sound.{Sound}
 use Rattle.junction.specs.declared.files.PlanFile.{PlanFile}
 
 -- the rows of the plan that was read
-abbrev pub rows_in : PlanFile → PlanRows
-rows_in file = owned_in file.rows
+abbrev pub rows_read : PlanFile → PlanRows
+rows_read file = owned_in file.rows
 
 -- bytes break no rule, and are the file of a sound plan with these rows
 pub record FileOf (bytes : List ℕ) (p : PlanRows) : Type 0 where
@@ -22,4 +22,4 @@ pub record FileOf (bytes : List ℕ) (p : PlanRows) : Type 0 where
 -- what reading bytes comes to: the plan whose file they are, or the first rule that they break
 abbrev pub ReadAs : List ℕ → Result PlanFile Fault → Type 0
 ReadAs bytes r =
-    MatchResult r (λ file. FileOf bytes (rows_in file)) (λ f. file_fault largest bytes ≡ Some f)
+    MatchResult r (λ file. FileOf bytes (rows_read file)) (λ f. file_fault largest bytes ≡ Some f)

@@ -17,11 +17,11 @@ steps_for Replay = 100
 steps_for Run = 100
 
 -- the draws that a seed, a tape and a row length ask for together, if they go together
-abbrev pub draws_for : {T : Type 0} → Option ℕ → Option T → Option ℕ → Option (Draws T)
-draws_for (Some seed) (Some tape) row_length = None
-draws_for seed None (Some row_length) = None
-draws_for seed None None = Some (Seed (unwrap_or seed 0))
-draws_for None (Some tape) row_length = Some (Tape tape (unwrap_or row_length 10000))
+abbrev pub draws_asked : {T : Type 0} → Option ℕ → Option T → Option ℕ → Option (Draws T)
+draws_asked (Some seed) (Some tape) row_length = None
+draws_asked seed None (Some row_length) = None
+draws_asked seed None None = Some (Seed (unwrap_or seed 0))
+draws_asked None (Some tape) row_length = Some (Tape tape (unwrap_or row_length 10000))
 
 -- the identifiers that are given, or the first ten
 abbrev pub ids_for : Option (List ℕ) → List ℕ
@@ -29,7 +29,7 @@ ids_for given = unwrap_or given (range_with_len 0 10)
 
 -- what a command goes by: what is given, and its own value where something is not
 pub record GoesBy (given : Given) (command : Command) (o : Options) : Type 0 where
-  pub draws : Some o.draws ≡ draws_for given.seed given.tape given.row_length
+  pub draws : Some o.draws ≡ draws_asked given.seed given.tape given.row_length
   pub scheduler : o.scheduler ≡ unwrap_or given.scheduler Earliest
   pub identifiers : o.identifiers.items ≡ ids_for (option_map (λ v. v.items) given.identifiers)
   pub runs : o.limits.runs ≡ unwrap_or given.runs 1000

@@ -9,9 +9,9 @@ use Rattle.junction.specs.declared.sources.Draws.{Draws}
 use Rattle.junction.specs.declared.sources.Draws.TheVariants.{Seed, Tape}
 
 -- the rows of draws of a seed, or of recorded numbers in rows of one length
-abbrev pub rows_of : Draws (Vec ℕ Global) → ℕ → runs.Draws
-rows_of (Seed seed) = computed seed
-rows_of (Tape numbers row_length) = recorded numbers.items row_length
+abbrev pub book_asked : Draws (Vec ℕ Global) → ℕ → runs.Draws
+book_asked (Seed seed) = computed seed
+book_asked (Tape numbers row_length) = recorded numbers.items row_length
 
 -- where a tape has been read there are numbers for its path; the seed and the row length stay
 abbrev pub Loaded : {T : Type 0} → Draws T → Draws (Vec ℕ Global) → Type 0

@@ -1,8 +1,8 @@
 -- The moves of a walk, and the words that ask for them.
 use Rattle.std.specs.Prelude.{◌≡◌, ℕ, ◌^◌, ◌<◌, List, ◌++◌, Result, bit_or, codes, fold}
-use Rattle.std.specs.Str.Parse.{digits_value, without_leading_plus}
+use Rattle.std.specs.Str.Parse.{without_leading_plus}
 use Rattle.describe.specs.Identifiers.{parts_of}
-use Rattle.describe.specs.Numbers.{Decimal}
+use Rattle.describe.specs.Words.{Writes}
 use Rattle.region.specs.Resetting.{reset_by}
 use Rattle.region.specs.Waiting.{waited}
 use Rattle.rows.specs.declared.refusal.Refusal.{Refusal}
@@ -18,15 +18,14 @@ moved ceilings (Wait steps) r = waited ceilings steps r
 moved ceilings (Reset timers) r = reset_by timers r
 
 -- a word writes a number of 32 bits in decimal digits, perhaps behind a plus sign
-abbrev pub WritesSigned : List ℕ → ℕ → Type 0
-WritesSigned word n =
-    Decimal (without_leading_plus word) × (n ≡ digits_value 10 (without_leading_plus word))
+abbrev pub WritesPerhapsPlus : List ℕ → ℕ → Type 0
+WritesPerhapsPlus word n = Writes (without_leading_plus word) n
 
 -- a word names a timer from 0 to 15, as x0
 pub record NamesTimer (word : List ℕ) (timer : ℕ) : Type 0 where
   pub digits : List ℕ
   pub word_is : word ≡ codes "x" ++ digits
-  pub number_is : WritesSigned digits timer
+  pub number_is : WritesPerhapsPlus digits timer
   pub there : timer < 16
 
 -- the bits of some timers
@@ -41,5 +40,5 @@ pub record NamesBits (word : List ℕ) (bits : ℕ) : Type 0 where
 
 -- two words ask for a move: `wait` and a number of steps, or `reset` and timers
 abbrev pub AskMove : List ℕ → List ℕ → Move → Type 0
-AskMove name value (Wait steps) = (name ≡ codes "wait") × WritesSigned value steps
+AskMove name value (Wait steps) = (name ≡ codes "wait") × WritesPerhapsPlus value steps
 AskMove name value (Reset bits) = (name ≡ codes "reset") × NamesBits value bits

@@ -1,12 +1,15 @@
 // Runs many sampled schedulers and tells how often each reached the goal.
-ghost use Rattle.std.specs.Prelude.{◌≡◌, length, IfOk, OnOk};
-ghost use Rattle.batch.specs.Batches.{all_made};
+ghost use Rattle.std.specs.Prelude.{◌≡◌, length, Some, IfOk, MatchResult};
+ghost use Rattle.batch.specs.Batches.{all_made, refusal_of};
 ghost use Rattle.draws.specs.Either.{book_of, coming_of};
 ghost use Rattle.offers.specs.Checked.{checked};
 ghost use Rattle.runs.specs.Tables.{plan_in};
+ghost use Rattle.junction.specs.Files.{rows_read};
+ghost use Rattle.junction.specs.Sources.{book_asked};
 
 use crate::files::PlanFile;
 use crate::options::{Command, Options, file_name};
+use crate::sources::Draws;
 use anyhow::Context;
 use batch::watch::Watch;
 use batch::{BatchRow, Limits, batch};
@@ -49,8 +52,8 @@ impl<'a> Watch for Progress<'a> {
     }
 }
 
-// Fills rows, one for each identifier. They are lent to a call of its own: what a `Vec` lends to
-// a log comes back with nothing known of it.
+// Fills rows, one for each identifier. The rows are lent to a function of their own: what a `Vec`
+// lends to a log comes back with nothing known of it.
 fn fill_rows(
     rt: &HostRuntime,
     handed: Handed<'_>,
@@ -61,8 +64,11 @@ fn fill_rows(
 ) -> Result<(), Refusal>
     requires { length rows.old ≡ length identifiers.now }
     ensures { let plan = plan_in (checked handed.entry) in
-        OnOk result (rows.new ≡
-        (all_made plan (book_of source.old) (coming_of source.old) limits identifiers.now).rows) }
+        let made = all_made plan (book_of source.old) (coming_of source.old) in
+        let n = length identifiers.now in
+        MatchResult result
+        (λ _. rows.new ≡ (made limits identifiers.now).rows)
+        (λ e. (refusal_of n limits n ≡ Some e) × (rows.new ≡ rows.old)) }
 {
     let mut log = Log::new(rows);
     let mut watch = Progress {
@@ -74,20 +80,28 @@ fn fill_rows(
     batch(handed, source, identifiers, limits, &mut log, &mut watch)
 }
 
-// The rows of all identifiers.
+// The rows of all identifiers, on the plan of a file and with the draws that were asked for.
 fn rows_of(
     rt: &HostRuntime,
-    handed: Handed<'_>,
-    source: &mut Source<'_>,
+    file: &PlanFile,
+    draws: &Draws<Vec<u32>>,
     identifiers: &[u32],
     limits: Limits,
 ) -> anyhow::Result<Vec<BatchRow>>
-    ensures { let plan = plan_in (checked handed.entry) in
-        IfOk result (λ rows. rows.items ≡
-        (all_made plan (book_of source.old) (coming_of source.old) limits identifiers.now).rows) }
+    ensures { let book = book_asked draws.now in
+        let made = all_made (plan_in (rows_read file.now)) book (book 0) limits identifiers.now in
+        IfOk result (λ rows. rows.items ≡ made.rows) }
 {
     let mut rows = vec![in rt.alloc(); BatchRow::default(); identifiers.len()]?;
-    fill_rows(rt, handed, source, identifiers, limits, &mut rows)?;
+    let mut source = draws.source();
+    fill_rows(
+        rt,
+        file.handed(),
+        &mut source,
+        identifiers,
+        limits,
+        &mut rows,
+    )?;
     Ok(rows)
 }
 
@@ -99,13 +113,7 @@ pub fn run_batch(rt: &HostRuntime, mut args: Args) -> anyhow::Result<()> {
     let file = PlanFile::open(rt, plan.as_str())?;
     let draws = options.draws.load(rt)?;
     let limits = options.limits;
-    let rows = rows_of(
-        rt,
-        file.handed(),
-        &mut draws.source(),
-        &options.identifiers,
-        limits,
-    )?;
+    let rows = rows_of(rt, &file, &draws, &options.identifiers, limits)?;
     let shown = ShownBatch {
         rows: &rows,
         runs: limits.runs,

@@ -1,8 +1,10 @@
 // Plan files, the tables that they are read into, and other files.
-ghost use Rattle.std.specs.Prelude.{◌≡◌, IfOk};
+ghost use Rattle.std.specs.Prelude.{◌≡◌, true, IfOk};
+ghost use Rattle.offers.specs.Checked.{checked};
 ghost use Rattle.plan.specs.Handed.{held_by};
-ghost use Rattle.reader.specs.Owned.{zero_rows};
+ghost use Rattle.reader.specs.Owned.{owned_in};
 ghost use Rattle.rows.specs.Plans.{counts_of};
+ghost use Rattle.rows.specs.Verdicts.{faultless};
 
 use anyhow::anyhow;
 use describe::faults::Refused;
@@ -14,23 +16,15 @@ use rows::section::Counts;
 use std::alloc::{AllocError, Global};
 use std::fs;
 
-// The tables of a plan file.
+// The rows of a plan file. They break no rule.
 #[derive(Drop)]
 pub struct PlanFile {
     rows: OwnedTables,
+    ghost sound: { faultless (owned_in rows) ≡ true },
 }
 
 impl PlanFile {
-    ghost use Rattle.junction.specs.Files.{ReadAs, largest, rows_in};
-
-    // Tables with default rows, as many as the largest plan has.
-    pub fn new(heap: Global) -> Result<PlanFile, AllocError>
-        ensures { IfOk result (λ file. rows_in file ≡ zero_rows largest) }
-    {
-        Ok(PlanFile {
-            rows: OwnedTables::of(heap, Counts::largest())?,
-        })
-    }
+    ghost use Rattle.junction.specs.Files.{ReadAs, rows_read};
 
     // Reads a plan file. The rule that a refused one breaks is printed.
     pub fn open(rt: &HostRuntime, path: &str) -> anyhow::Result<PlanFile> {
@@ -49,26 +43,27 @@ impl PlanFile {
         Ok(PlanFile::of_bytes(rt.alloc(), &bytes)?)
     }
 
-    // The plan whose file these bytes are, or the rule that they break. The fault stands inside:
-    // it is told on standard output, and is no error of the program.
+    // The plan whose file these bytes are, or the rule that they break. The fault stands inside: it
+    // is told on standard output, and is no error of the program.
     pub fn of_bytes(heap: Global, bytes: &[u8]) -> Result<Result<PlanFile, Fault>, AllocError>
         ensures { IfOk result (ReadAs bytes.now) }
     {
-        let mut file = PlanFile::new(heap)?;
-        match file.rows.read(bytes) {
+        let mut rows = OwnedTables::of(heap, Counts::largest())?;
+        match rows.read(bytes) {
             Ok(counts) => {
-                file.rows.cut(&counts);
-                Ok(Ok(file))
+                rows.cut(&counts);
+                Ok(Ok(PlanFile { rows }))
             }
             // Bytes that are refused have a fault.
-            Err(_) => Ok(Err(file.rows.fault_in(bytes).unwrap())),
+            Err(_) => Ok(Err(rows.fault_in(bytes).unwrap())),
         }
     }
 
     // The rows of the plan, and how many of each there are.
     pub fn handed(&self) -> Handed<'_>
-        ensures rows { held_by result.tables ≡ rows_in self.now }
-        ensures counts { result.counts ≡ counts_of (rows_in self.now) }
+        ensures rows { held_by result.tables ≡ rows_read self.now }
+        ensures counts { result.counts ≡ counts_of (rows_read self.now) }
+        ensures the_plan_read_is_the_plan_that_runs { checked result ≡ rows_read self.now }
     {
         let tables = self.tables();
         Handed {
@@ -79,7 +74,7 @@ impl PlanFile {
 
     // The rows of the plan.
     pub fn tables(&self) -> Tables<'_>
-        ensures { held_by result ≡ rows_in self.now }
+        ensures { held_by result ≡ rows_read self.now }
     {
         self.rows.view()
     }

@@ -28,7 +28,7 @@ pub fn run_plan(rt: &HostRuntime, mut args: Args) -> anyhow::Result<()> {
     let file = PlanFile::open(rt, plan.as_str())?;
     let draws = options.draws.load(rt)?;
     let calls = steps_by(rt.alloc(), options.scheduler, options.limits.steps)?;
-    let entries = entries_of(rt, file.handed(), &mut draws.source(), &calls)?;
+    let entries = entries_of(rt, &file, &draws, &calls)?;
     print!(rt; "{}", History(&entries))?;
     Ok(())
 }

@@ -1,11 +1,12 @@
 // The options of the commands that run a plan.
-ghost use Rattle.std.specs.Prelude.{◌≡◌, ◌≤◌, Some, None, IfOk, IfSome, OnErr, string_bytes};
+ghost use Rattle.std.specs.Prelude.{◌≡◌, ◌≤◌, Some, None, IfOk, IsSome, IsSomeAnd, MatchResult};
+ghost use Rattle.std.specs.Prelude.{string_bytes};
 ghost use Rattle.std.specs.Option.{option_map};
 ghost use Rattle.std.specs.Result.{result_ok};
 ghost use Rattle.describe.specs.Identifiers.{Lists};
 ghost use Rattle.describe.specs.Names.{Names};
 ghost use Rattle.describe.specs.Words.{Writes};
-ghost use Rattle.junction.specs.Options.{draws_for, ids_for};
+ghost use Rattle.junction.specs.Options.{draws_asked, ids_for};
 
 use crate::sources::Draws;
 use anyhow::{Context, anyhow};
@@ -99,7 +100,7 @@ impl<'a> Asked<'a> {
 
     // Its value, a text.
     fn text(self) -> anyhow::Result<String>
-        ensures { IfOk result (λ text. IfSome self.entry.value
+        ensures { IfOk result (λ text. IsSomeAnd self.entry.value
             (λ word. string_bytes text ≡ word.now)) }
     {
         Ok(String::from_str(self.heap, self.value()?)?)
@@ -108,7 +109,7 @@ impl<'a> Asked<'a> {
     // Its value, a number within limits.
     fn number(self, least: u32, most: u32) -> anyhow::Result<u32>
         ensures within { IfOk result (λ n. (least ≤ n) × (n ≤ most)) }
-        ensures read { IfOk result (λ n. IfSome self.entry.value (λ word. Writes word.now n)) }
+        ensures read { IfOk result (λ n. IsSomeAnd self.entry.value (λ word. Writes word.now n)) }
     {
         let name = self.name;
         let value = self.value()?;
@@ -119,7 +120,7 @@ impl<'a> Asked<'a> {
 
     // Its value, a scheduler.
     fn scheduler(self) -> anyhow::Result<Chooser>
-        ensures { IfOk result (λ s. IfSome self.entry.value (λ word. Names word.now s)) }
+        ensures { IfOk result (λ s. IsSomeAnd self.entry.value (λ word. Names word.now s)) }
     {
         let name = self.name;
         let value = self.value()?;
@@ -130,7 +131,8 @@ impl<'a> Asked<'a> {
 
     // Its value, a list of identifiers.
     fn identifiers(self) -> anyhow::Result<Vec<u32>>
-        ensures { IfOk result (λ ids. IfSome self.entry.value (λ word. Lists word.now ids.items)) }
+        ensures { IfOk result (λ ids.
+            IsSomeAnd self.entry.value (λ word. Lists word.now ids.items)) }
     {
         let name = self.name;
         let value = self.value()?;
@@ -141,8 +143,8 @@ impl<'a> Asked<'a> {
 
     // Keeps what it says. It may say it once.
     fn keep<T: Drop>(self, place: &mut Option<T>, value: T) -> anyhow::Result<()>
-        ensures kept { IfOk result (λ _. (place.old ≡ None) × (place.new ≡ Some value)) }
-        ensures once { OnErr result (place.new ≡ place.old) }
+        ensures { MatchResult result (λ _. (place.old ≡ None) × (place.new ≡ Some value))
+            (λ _. IsSome place.old × (place.new ≡ place.old)) }
     {
         let name = self.name;
         if place.is_some() {
@@ -231,7 +233,7 @@ fn draws(
     tape: Option<String>,
     row_length: Option<u32>,
 ) -> anyhow::Result<Draws<String>>
-    ensures { result_ok result ≡ draws_for seed tape row_length }
+    ensures { result_ok result ≡ draws_asked seed tape row_length }
 {
     match (seed, tape, row_length) {
         (Some(_), Some(_), _) => Err(anyhow!("--seed and --tape do not go together")),

@@ -1,15 +1,18 @@
 // Makes the calls of a list and tells what each replies.
-ghost use Rattle.std.specs.Prelude.{◌≡◌, map, length, IfOk, OnOk};
+ghost use Rattle.std.specs.Prelude.{◌≡◌, map, length, IfOk, IsOkAnd};
 ghost use Rattle.draws.specs.Either.{coming_of};
 ghost use Rattle.offers.specs.Checked.{checked};
 ghost use Rattle.run.specs.Calls.{calls_of, entry_of};
 ghost use Rattle.runs.specs.Runs.{opening, told_of};
 ghost use Rattle.runs.specs.Tables.{plan_in};
 ghost use Rattle.schedulers.specs.Choosers.{meaning_of};
+ghost use Rattle.junction.specs.Files.{rows_read};
 ghost use Rattle.junction.specs.Replays.{LinesAsk};
+ghost use Rattle.junction.specs.Sources.{book_asked};
 
 use crate::files::{PlanFile, text_of};
 use crate::options::{Command, Options, file_name};
+use crate::sources::Draws;
 use anyhow::{Context, anyhow};
 use describe::calls::call;
 use describe::entries::ShownEntry;
@@ -43,8 +46,8 @@ fn calls_for(heap: Global, path: &str, text: &str) -> anyhow::Result<Vec<Call<Ch
     Ok(calls)
 }
 
-// Fills rows with what is told of each call. They are lent to a call of its own: what a `Vec`
-// lends to a log comes back with nothing known of it.
+// Fills rows with what is told of each call. The rows are lent to a function of their own: what a
+// `Vec` lends to a log comes back with nothing known of it.
 fn fill_entries(
     handed: Handed<'_>,
     source: &mut Source<'_>,
@@ -53,26 +56,28 @@ fn fill_entries(
 ) -> Result<(), Refusal>
     requires { length rows.old ≡ length calls.now }
     ensures { let plan = plan_in (checked handed.entry) in
-        OnOk result (map entry_of rows.new ≡
-        told_of plan (opening plan (coming_of source.old)) (calls_of meaning_of calls.now)) }
+        let told = told_of plan (opening plan (coming_of source.old)) in
+        IsOkAnd result (λ _. map entry_of rows.new ≡ told (calls_of meaning_of calls.now)) }
 {
     let mut log = Log::new(rows);
     replay(handed, source, calls, &mut log)
 }
 
-// The entry of each call of a list.
+// The entry of each call of a list, on the plan of a file and with the draws that were asked for.
 pub fn entries_of(
     rt: &HostRuntime,
-    handed: Handed<'_>,
-    source: &mut Source<'_>,
+    file: &PlanFile,
+    draws: &Draws<Vec<u32>>,
     calls: &[Call<Chooser>],
 ) -> anyhow::Result<Vec<Entry>>
-    ensures { let plan = plan_in (checked handed.entry) in
-        IfOk result (λ entries. map entry_of entries.items ≡
-        told_of plan (opening plan (coming_of source.old)) (calls_of meaning_of calls.now)) }
+    ensures { let plan = plan_in (rows_read file.now) in
+        let told = told_of plan (opening plan (book_asked draws.now 0)) in
+        IfOk result (λ entries.
+        map entry_of entries.items ≡ told (calls_of meaning_of calls.now)) }
 {
     let mut rows = vec![in rt.alloc(); Entry::blank(); calls.len()]?;
-    fill_entries(handed, source, calls, &mut rows)?;
+    let mut source = draws.source();
+    fill_entries(file.handed(), &mut source, calls, &mut rows)?;
     Ok(rows)
 }
 
@@ -86,7 +91,7 @@ pub fn replay_file(rt: &HostRuntime, mut args: Args) -> anyhow::Result<()> {
     let text = text_of(rt, path.as_str())?;
     let calls = calls_for(rt.alloc(), path.as_str(), text.as_str())?;
     let draws = options.draws.load(rt)?;
-    let entries = entries_of(rt, file.handed(), &mut draws.source(), &calls)?;
+    let entries = entries_of(rt, &file, &draws, &calls)?;
     for entry in entries.iter() {
         println!(rt; "{}", ShownEntry(entry))?;
     }

@@ -51,12 +51,12 @@ impl Draws<String> {
 }
 
 impl Draws<Vec<u32>> {
-    ghost use Rattle.junction.specs.Sources.{rows_of};
+    ghost use Rattle.junction.specs.Sources.{book_asked};
 
     // The source of the draws, at its first row.
     pub fn source(&self) -> Source<'_>
-        ensures rows { book_of result ≡ rows_of self.now }
-        ensures at_row_0 { coming_of result ≡ rows_of self.now 0 }
+        ensures rows { book_of result ≡ book_asked self.now }
+        ensures at_row_0 { coming_of result ≡ book_asked self.now 0 }
     {
         match self {
             Draws::Seed(seed) => Source::Computed(Congruential::new(*seed)),

@@ -12,7 +12,12 @@ use Rattle.run.specs.declared.Run.{Run}
 -- where a run is, when this is what its source says of the draws to come
 abbrev pub view_of : {D : Type 0} → (D → runs.Draws) → Run D → runs.Run
 view_of coming r =
-    record { stage = r.at.stage; region = viewed r.at.region; standing = r.standing; coming = coming r.source.now }
+    record {
+      stage = r.at.stage;
+      region = viewed r.at.region;
+      standing = r.standing;
+      coming = coming r.source.now;
+    }
 
 -- the plan of a run
 abbrev pub plan_for : {D : Type 0} → Run D → Plan
