@@ -1,5 +1,5 @@
 // Plan files, the tables that they are read into, and other files.
-ghost use Rattle.std.specs.Prelude.{◌≡◌, true, IfOk};
+ghost use Rattle.std.specs.Prelude.{◌≡◌, ℕ, List, true, IfOk};
 ghost use Rattle.offers.specs.Checked.{checked};
 ghost use Rattle.plan.specs.Handed.{held_by};
 ghost use Rattle.reader.specs.Owned.{owned_in};
@@ -24,10 +24,12 @@ pub struct PlanFile {
 }
 
 impl PlanFile {
-    ghost use Rattle.junction.specs.Files.{ReadAs, rows_read};
+    ghost use Rattle.junction.specs.Files.{FileOf, ReadAs, rows_read};
 
     // Reads a plan file. The rule that a refused one breaks is printed.
-    pub fn open(rt: &HostRuntime, path: &str) -> anyhow::Result<PlanFile> {
+    pub fn open(rt: &HostRuntime, path: &str) -> anyhow::Result<PlanFile>
+        ensures { IfOk result (λ file. (bytes : List ℕ) × FileOf bytes (rows_read file)) }
+    {
         match PlanFile::load(rt, path)? {
             Ok(file) => Ok(file),
             Err(fault) => {
@@ -38,7 +40,9 @@ impl PlanFile {
     }
 
     // Reads a plan file, or answers the rule that it breaks.
-    pub fn load(rt: &HostRuntime, path: &str) -> anyhow::Result<Result<PlanFile, Fault>> {
+    pub fn load(rt: &HostRuntime, path: &str) -> anyhow::Result<Result<PlanFile, Fault>>
+        ensures { IfOk result (λ read. (bytes : List ℕ) × ReadAs bytes read) }
+    {
         let bytes = fs::read(rt, path).map_err(|e| anyhow!("cannot read {path}: {e}"))?;
         Ok(PlanFile::of_bytes(rt.alloc(), &bytes)?)
     }
