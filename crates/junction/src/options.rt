@@ -1,12 +1,14 @@
 // The options of the commands that run a plan.
-ghost use Rattle.std.specs.Prelude.{◌≡◌, ◌≤◌, Some, None, IfOk, IsSome, IsSomeAnd, MatchResult};
-ghost use Rattle.std.specs.Prelude.{string_bytes};
+ghost use Rattle.std.specs.Prelude.{◌≡◌, ℕ, ◌≤◌, Some, None, IfOk, IsSome, IsSomeAnd, OnErr};
+ghost use Rattle.std.specs.Prelude.{String, Vec, codes, string_bytes};
+ghost use Rattle.std.specs.Global.{Global};
 ghost use Rattle.std.specs.Option.{option_map};
 ghost use Rattle.std.specs.Result.{result_ok};
 ghost use Rattle.describe.specs.Identifiers.{Lists};
 ghost use Rattle.describe.specs.Names.{Names};
 ghost use Rattle.describe.specs.Words.{Writes};
 ghost use Rattle.junction.specs.Options.{draws_asked, ids_for};
+ghost use Rattle.schedulers.specs.declared.chooser.Chooser.{Chooser};
 
 use crate::sources::Draws;
 use anyhow::{Context, anyhow};
@@ -143,8 +145,9 @@ impl<'a> Asked<'a> {
 
     // Keeps what it says. It may say it once.
     fn keep<T: Drop>(self, place: &mut Option<T>, value: T) -> anyhow::Result<()>
-        ensures { MatchResult result (λ _. (place.old ≡ None) × (place.new ≡ Some value))
-            (λ _. IsSome place.old × (place.new ≡ place.old)) }
+        ensures kept { IfOk result (λ _. (place.old ≡ None) × (place.new ≡ Some value)) }
+        ensures refused_where_it_was_kept { OnErr result
+            (IsSome place.old × (place.new ≡ place.old)) }
     {
         let name = self.name;
         if place.is_some() {
@@ -166,7 +169,40 @@ impl Given {
     ghost use Rattle.junction.specs.Options.{GoesBy};
 
     // Takes one option of a command.
-    fn take(&mut self, asked: Asked<'_>) -> anyhow::Result<()> {
+    fn take(&mut self, asked: Asked<'_>) -> anyhow::Result<()>
+        ensures seed { asked.entry.name.now ≡ codes "--seed"
+            → IfOk result (λ _. (n : ℕ)
+            × IsSomeAnd asked.entry.value (λ word. Writes word.now n)
+            × (self.new ≡ record self.old { seed = Some n })) }
+        ensures tape { asked.entry.name.now ≡ codes "--tape"
+            → IfOk result (λ _. (text : String Global)
+            × IsSomeAnd asked.entry.value (λ word. string_bytes text ≡ word.now)
+            × (self.new ≡ record self.old { tape = Some text })) }
+        ensures row_length { asked.entry.name.now ≡ codes "--row-length"
+            → IfOk result (λ _. (n : ℕ)
+            × IsSomeAnd asked.entry.value (λ word. Writes word.now n)
+            × (self.new ≡ record self.old { row_length = Some n })) }
+        ensures scheduler { asked.entry.name.now ≡ codes "--scheduler"
+            → IfOk result (λ _. (s : Chooser)
+            × IsSomeAnd asked.entry.value (λ word. Names word.now s)
+            × (self.new ≡ record self.old { scheduler = Some s })) }
+        ensures steps { asked.entry.name.now ≡ codes "--steps"
+            → IfOk result (λ _. (n : ℕ)
+            × IsSomeAnd asked.entry.value (λ word. Writes word.now n)
+            × (self.new ≡ record self.old { steps = Some n })) }
+        ensures ids { asked.entry.name.now ≡ codes "--identifiers"
+            → IfOk result (λ _. (ids : Vec ℕ Global)
+            × IsSomeAnd asked.entry.value (λ word. Lists word.now ids.items)
+            × (self.new ≡ record self.old { identifiers = Some ids })) }
+        ensures runs { asked.entry.name.now ≡ codes "--runs"
+            → IfOk result (λ _. (n : ℕ)
+            × IsSomeAnd asked.entry.value (λ word. Writes word.now n)
+            × (self.new ≡ record self.old { runs = Some n })) }
+        ensures allowance { asked.entry.name.now ≡ codes "--allowance"
+            → IfOk result (λ _. (n : ℕ)
+            × IsSomeAnd asked.entry.value (λ word. Writes word.now n)
+            × (self.new ≡ record self.old { allowance = Some n })) }
+    {
         match (asked.name, asked.command) {
             ("--seed", _) => asked.keep(&mut self.seed, asked.number(0, u32::MAX)?),
             ("--tape", _) => asked.keep(&mut self.tape, asked.text()?),
