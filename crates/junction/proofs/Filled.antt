@@ -1,5 +1,5 @@
 -- Rows that are lent to a log of as many entries.
-use Rattle.std.proofs.Common.{◌≡◌, ℕ, ◌+◌, List, [], ◌∷◌, ◌++◌, length, fold, Some, Ok, Err, Result, sym, ap, ◌∙◌, arith, append-nil, length-append, length-drop}
+use Rattle.std.proofs.Common.{◌≡◌, ℕ, ◌+◌, List, [], ◌∷◌, ◌++◌, length, fold, Some, None, Ok, Err, Result, sym, ap, ◌∙◌, arith, append-nil, length-append, length-drop}
 use Rattle.std.proofs.lemmas.List.{take-append-drop, nil_from_length}
 use Rattle.std.specs.Result.{MatchResult}
 use Rattle.logs.specs.Logs.{entries_of, past_of}
@@ -23,7 +23,7 @@ pub rows_filled : (plan : Plan) (book : Book) (draws left : Draws) (limits : Lim
     Batched plan book draws limits ids log log' left r →
     entries_of log ≡ [] → length (past_of log) ≡ length ids →
     MatchResult r
-    (λ _. log'.rows.now ≡ (all_made plan book draws limits ids).rows)
+    (λ _. (refusal_of (length ids) limits (length ids) ≡ None) × (log'.rows.now ≡ (all_made plan book draws limits ids).rows))
     (λ e. (refusal_of (length ids) limits (length ids) ≡ Some e) × (log'.rows.now ≡ past_of log))
 rows_filled plan book draws left limits ids log log' (Err e) b empty as_many =
     let whole : log.rows.now ≡ entries_of log ++ past_of log = sym (take-append-drop log.len log.rows.now) in
@@ -34,4 +34,4 @@ rows_filled plan book draws left limits ids log log' (Ok u) b empty as_many =
     let rows : length new ≡ length ids = omega (arith, rows_from plan book limits start ids) in
     let none : past_of log' ≡ [] = nil_from_length (past_of log') (omega (arith, ap length b.1.past, length-drop (length new) (past_of log), rows, as_many)) in
     let whole : log'.rows.now ≡ entries_of log' ++ past_of log' = sym (take-append-drop log'.len log'.rows.now) in
-    whole ∙ ap (λ z. entries_of log' ++ z) none ∙ append-nil (entries_of log') ∙ b.1.entries ∙ ap (λ z. z ++ new) empty
+    (ap (refusal_of (length ids) limits) (sym as_many) ∙ b.0, whole ∙ ap (λ z. entries_of log' ++ z) none ∙ append-nil (entries_of log') ∙ b.1.entries ∙ ap (λ z. z ++ new) empty)

@@ -1,5 +1,5 @@
 // Runs many sampled schedulers and tells how often each reached the goal.
-ghost use Rattle.std.specs.Prelude.{◌≡◌, length, Some, IfOk, MatchResult};
+ghost use Rattle.std.specs.Prelude.{◌≡◌, length, Some, None, IfOk, MatchResult};
 ghost use Rattle.batch.specs.Batches.{all_made, refusal_of};
 ghost use Rattle.draws.specs.Either.{book_of, coming_of};
 ghost use Rattle.offers.specs.Checked.{checked};
@@ -67,7 +67,7 @@ fn fill_rows(
         let made = all_made plan (book_of source.old) (coming_of source.old) in
         let n = length identifiers.now in
         MatchResult result
-        (λ _. rows.new ≡ (made limits identifiers.now).rows)
+        (λ _. (refusal_of n limits n ≡ None) × (rows.new ≡ (made limits identifiers.now).rows))
         (λ e. (refusal_of n limits n ≡ Some e) × (rows.new ≡ rows.old)) }
 {
     let mut log = Log::new(rows);
@@ -90,7 +90,8 @@ fn rows_of(
 ) -> anyhow::Result<Vec<BatchRow>>
     ensures { let book = book_asked draws.now in
         let made = all_made (plan_in (rows_read file.now)) book (book 0) limits identifiers.now in
-        IfOk result (λ rows. rows.items ≡ made.rows) }
+        let n = length identifiers.now in
+        IfOk result (λ rows. (refusal_of n limits n ≡ None) × (rows.items ≡ made.rows)) }
 {
     let mut rows = vec![in rt.alloc(); BatchRow::default(); identifiers.len()]?;
     let mut source = draws.source();
@@ -105,8 +106,7 @@ fn rows_of(
     Ok(rows)
 }
 
-// Runs a batch and prints its rows, and the best and the worst of them. `run_plan` begins alike: four lines that each say what they do are
-// plainer than one function that answers options, file and draws together. `replay_file` reads its calls in between.
+// Runs a batch and prints its rows, and the best and the worst of them.
 pub fn run_batch(rt: &HostRuntime, mut args: Args) -> anyhow::Result<()> {
     let plan = file_name(&mut args).context("batch takes a plan file: junction batch PLAN")?;
     let options = Options::read(rt.alloc(), Command::Batch, args)?;

@@ -26,7 +26,8 @@ pub struct PlanFile {
 impl PlanFile {
     ghost use Rattle.junction.specs.Files.{FileOf, ReadAs, rows_read};
 
-    // Reads a plan file. The rule that a refused one breaks is printed.
+    // Reads a plan file: what it answers is the plan of some bytes, and no contract can say that they
+    // are those of the path. The rule that a refused one breaks is printed.
     pub fn open(rt: &HostRuntime, path: &str) -> anyhow::Result<PlanFile>
         ensures { IfOk result (λ file. (bytes : List ℕ) × FileOf bytes (rows_read file)) }
     {

@@ -15,7 +15,7 @@ use anyhow::{Context, anyhow};
 use std::env;
 use std::process::ExitCode;
 
-// The limits of the options are written out, since a text that stands as it is read is plainer than one put together from them.
+// What `help` prints. The limits of the options are written out.
 const USAGE: &str = "junction: runs signal plans over timer regions
 
 usage:

@@ -1,5 +1,6 @@
 // The options of the commands that run a plan.
-ghost use Rattle.std.specs.Prelude.{◌≡◌, ℕ, ◌≤◌, Some, None, IfOk, IsSome, IsSomeAnd, OnErr};
+ghost use Rattle.std.specs.Prelude.{◌≡◌, ℕ, ◌≤◌, Some, None, IfOk, IfSome, IsSome, IsSomeAnd, OnErr};
+ghost use Rattle.std.specs.Prelude.{MatchResult};
 ghost use Rattle.std.specs.Prelude.{String, Vec, codes, string_bytes};
 ghost use Rattle.std.specs.Global.{Global};
 ghost use Rattle.std.specs.Option.{option_map};
@@ -94,7 +95,8 @@ struct Asked<'a> {
 impl<'a> Asked<'a> {
     // Its value.
     fn value(self) -> anyhow::Result<&'a str>
-        ensures { IfOk result (λ word. self.entry.value ≡ Some word) }
+        ensures { MatchResult result (λ word. self.entry.value ≡ Some word)
+            (λ _. self.entry.value ≡ None) }
     {
         let name = self.name;
         self.value.context(format_args!("{name} takes a value"))
@@ -112,6 +114,8 @@ impl<'a> Asked<'a> {
     fn number(self, least: u32, most: u32) -> anyhow::Result<u32>
         ensures within { IfOk result (λ n. (least ≤ n) × (n ≤ most)) }
         ensures read { IfOk result (λ n. IsSomeAnd self.entry.value (λ word. Writes word.now n)) }
+        ensures refused { OnErr result (IfSome self.entry.value (λ word.
+            (n : ℕ) → Writes word.now n → least ≤ n → n ≤ most → ⊥)) }
     {
         let name = self.name;
         let value = self.value()?;
@@ -122,7 +126,8 @@ impl<'a> Asked<'a> {
 
     // Its value, a scheduler.
     fn scheduler(self) -> anyhow::Result<Chooser>
-        ensures { IfOk result (λ s. IsSomeAnd self.entry.value (λ word. Names word.now s)) }
+        ensures { MatchResult result (λ s. IsSomeAnd self.entry.value (λ word. Names word.now s))
+            (λ _. IfSome self.entry.value (λ word. (s : Chooser) → Names word.now s → ⊥)) }
     {
         let name = self.name;
         let value = self.value()?;
@@ -173,34 +178,46 @@ impl Given {
         ensures seed { asked.entry.name.now ≡ codes "--seed"
             → IfOk result (λ _. (n : ℕ)
             × IsSomeAnd asked.entry.value (λ word. Writes word.now n)
+            × (self.old.seed ≡ None)
             × (self.new ≡ record self.old { seed = Some n })) }
         ensures tape { asked.entry.name.now ≡ codes "--tape"
             → IfOk result (λ _. (text : String Global)
             × IsSomeAnd asked.entry.value (λ word. string_bytes text ≡ word.now)
+            × (self.old.tape ≡ None)
             × (self.new ≡ record self.old { tape = Some text })) }
         ensures row_length { asked.entry.name.now ≡ codes "--row-length"
             → IfOk result (λ _. (n : ℕ)
             × IsSomeAnd asked.entry.value (λ word. Writes word.now n)
+            × (self.old.row_length ≡ None)
+            × (1 ≤ n) × (n ≤ 10000)
             × (self.new ≡ record self.old { row_length = Some n })) }
         ensures scheduler { asked.entry.name.now ≡ codes "--scheduler"
             → IfOk result (λ _. (s : Chooser)
             × IsSomeAnd asked.entry.value (λ word. Names word.now s)
+            × (self.old.scheduler ≡ None)
             × (self.new ≡ record self.old { scheduler = Some s })) }
         ensures steps { asked.entry.name.now ≡ codes "--steps"
             → IfOk result (λ _. (n : ℕ)
             × IsSomeAnd asked.entry.value (λ word. Writes word.now n)
+            × (self.old.steps ≡ None)
+            × (1 ≤ n) × (n ≤ 10000)
             × (self.new ≡ record self.old { steps = Some n })) }
         ensures ids { asked.entry.name.now ≡ codes "--identifiers"
             → IfOk result (λ _. (ids : Vec ℕ Global)
             × IsSomeAnd asked.entry.value (λ word. Lists word.now ids.items)
+            × (self.old.identifiers ≡ None)
             × (self.new ≡ record self.old { identifiers = Some ids })) }
         ensures runs { asked.entry.name.now ≡ codes "--runs"
             → IfOk result (λ _. (n : ℕ)
             × IsSomeAnd asked.entry.value (λ word. Writes word.now n)
+            × (self.old.runs ≡ None)
+            × (1 ≤ n) × (n ≤ 10000)
             × (self.new ≡ record self.old { runs = Some n })) }
         ensures allowance { asked.entry.name.now ≡ codes "--allowance"
             → IfOk result (λ _. (n : ℕ)
             × IsSomeAnd asked.entry.value (λ word. Writes word.now n)
+            × (self.old.allowance ≡ None)
+            × (1 ≤ n) × (n ≤ 1000000000)
             × (self.new ≡ record self.old { allowance = Some n })) }
     {
         match (asked.name, asked.command) {

@@ -20,8 +20,8 @@ enum Move {
     Reset(u16),
 }
 
-// Numbers of a walk may begin with a sign, as `+3`, so they are read by `parse` and not by `number`, which takes digits alone.
-// The bit of a timer that is written as x0, x1 and so on.
+// The bit of a timer that is written as x0, x1 and so on. A number of a walk may begin with a plus
+// sign.
 fn timer_bit(word: &str) -> Option<u16>
     ensures { MatchOption result ((timer : ℕ) → NamesTimer word.now timer → ⊥)
         (λ bit. (timer : ℕ) × NamesTimer word.now timer × (bit ≡ 2 ^ timer)) }
@@ -42,7 +42,7 @@ fn timer_bits(words: &str) -> Option<u16>
     Some(bits)
 }
 
-// The move that two words ask for, if they ask for one. No FromStr, which reads one word.
+// The move that two words ask for, if they ask for one.
 fn parsed(name: &str, value: &str) -> Option<Move>
     ensures { MatchOption result ((m : Move) → AskMove name.now value.now m → ⊥)
         (λ m. AskMove name.now value.now m) }
