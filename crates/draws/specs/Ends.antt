@@ -1,13 +1,17 @@
--- Computed rows, and recorded ones, are finite or endless.
+-- Computed and mixed rows, and recorded ones, are finite or endless.
 use Rattle.std.specs.Prelude.{◌≡◌, ℕ, zero, suc, List, [], ◌∷◌, Some, None, refl}
 use Rattle.std.proofs.Common.{arith}
 use Rattle.draws.specs.Computed.{endless, iterated}
 use Rattle.draws.specs.Recorded.{listed, numbers_of, recorded}
 use Rattle.draws.specs.Sources.{FiniteOrEndless}
 
+-- a row with a draw at every place is endless
+pub always_ends : (draw_at : ℕ → ℕ) → FiniteOrEndless (λ k. Some (draw_at k))
+always_ends draw_at j k later none = let s : Some (draw_at j) ≡ None = none in cc
+
 -- at a state there is a draw at every place
 pub endless_ends : (h : ℕ) → FiniteOrEndless (endless h)
-endless_ends h j k later none = let s : Some (iterated (suc j) h) ≡ None = none in cc
+endless_ends h = always_ends (λ k. iterated (suc k) h)
 
 -- behind the draws of a list there is none
 pub listed_ends : (xs : List ℕ) → FiniteOrEndless (listed xs)

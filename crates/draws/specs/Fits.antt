@@ -1,10 +1,11 @@
--- Every draw of computed and of recorded rows has 32 bits.
+-- Every draw of computed, mixed and recorded rows has 32 bits.
 use Rattle.std.specs.Prelude.{◌≡◌, ℕ, zero, suc, ◌+◌, ◌*◌, ◌^◌, ◌<◌, ◌≤◌, ◌⊎◌, List, [], ◌∷◌, take, drop, slice_index}
 use Rattle.std.proofs.Common.{inl, inr, arith}
 use Rattle.std.proofs.lemmas.List.{get_or-drop, get_or_past, get_or-take, length-take}
 use Rattle.std.proofs.lemmas.Bool.{cases_lt}
 use Rattle.runs.specs.Telling.{DrawsFit}
 use Rattle.draws.specs.Computed.{after, iterated, endless}
+use Rattle.draws.specs.Mixed.{draw_of, stream, words_after}
 use Rattle.draws.specs.Recorded.{listed, kept, recorded, Fit}
 
 -- every state but a first has 32 bits
@@ -19,6 +20,15 @@ iterated_fits (suc k) h = iterated_fits k (after h)
 -- so has every draw to come at a state
 pub endless_fit : (h : ℕ) → DrawsFit (endless h)
 endless_fit h k g e = let s : iterated (suc k) h ≡ g = cc in omega (arith, iterated_fits k h)
+
+-- so has every draw of mixed words
+pub draw_of_fits : (words : List ℕ) → draw_of words < 2 ^ 32
+unfolding draw_of
+draw_of_fits words = omega arith
+
+pub stream_fits : (words : List ℕ) → DrawsFit (stream words)
+stream_fits words k g e =
+    let s : draw_of (words_after k words) ≡ g = cc in omega (arith, draw_of_fits (words_after k words))
 
 -- so has every draw of a list of numbers that have
 pub listed_fit : (xs : List ℕ) → Fit xs → DrawsFit (listed xs)

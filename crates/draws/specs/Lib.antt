@@ -1,5 +1,6 @@
 pub mod Sources
 pub mod Computed
+pub mod Mixed
 pub mod Recorded
 pub mod Fits
 pub mod Ends

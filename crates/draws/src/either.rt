@@ -1,20 +1,23 @@
-// A source of either kind.
+// A source of any kind.
 ghost use Rattle.draws.specs.Computed.{first_state};
 ghost use Rattle.draws.specs.Either.{book_of, coming_of};
-ghost use Rattle.draws.specs.Ends.{endless_ends, listed_ends, recorded_ends};
-ghost use Rattle.draws.specs.Fits.{endless_fit, listed_fit, recorded_fit};
-ghost use Rattle.draws.specs.declared.either.Source.TheVariants.{Computed, Recorded};
+ghost use Rattle.draws.specs.Ends.{always_ends, endless_ends, listed_ends, recorded_ends};
+ghost use Rattle.draws.specs.Fits.{endless_fit, listed_fit, recorded_fit, stream_fits};
+ghost use Rattle.draws.specs.Mixed.{draw_of, first_words, words_after};
+ghost use Rattle.draws.specs.declared.either.Source.TheVariants.{Computed, Mixed, Recorded};
 
 use crate::congruential::Congruential;
+use crate::mixed::Mixed;
 use crate::source::DrawSource;
 use crate::tape::Tape;
 use rows::refusal::Refusal;
 
-// Computed or recorded draws, whichever were asked for where the program runs. A closed list and
-// no `&mut dyn`: there are these two kinds only, and a source of either is one value.
-#[derive(Clone, Copy, Debug, PartialEq, Eq)]
+// Computed, mixed or recorded draws, whichever were asked for where the program runs. A closed list
+// and no `&mut dyn`: there are these kinds only, and a source of any of them is one value.
+#[derive(Debug, PartialEq, Eq, Drop)]
 pub enum Source<'a> {
     Computed(Congruential),
+    Mixed(Mixed),
     Recorded(Tape<'a>),
 }
 
@@ -25,21 +28,25 @@ impl<'a> DrawSource for Source<'a> {
 
     ghost book_fits = { elim [
       | Computed c ↦ λ row. endless_fit (first_state c.seed row)
+      | Mixed m ↦ λ row. stream_fits (first_words m.seed row)
       | Recorded t ↦ recorded_fit t.row_length t.numbers.now t.numbers_fit
     ] };
 
     ghost coming_fits = { elim [
       | Computed c ↦ endless_fit c.state
+      | Mixed m ↦ stream_fits m.words
       | Recorded t ↦ listed_fit t.left.now t.left_fit
     ] };
 
     ghost book_ends = { elim [
       | Computed c ↦ λ row. endless_ends (first_state c.seed row)
+      | Mixed m ↦ λ row. always_ends (λ k. draw_of (words_after k (first_words m.seed row)))
       | Recorded t ↦ recorded_ends t.row_length t.numbers.now
     ] };
 
     ghost coming_ends = { elim [
       | Computed c ↦ endless_ends c.state
+      | Mixed m ↦ always_ends (λ k. draw_of (words_after k m.words))
       | Recorded t ↦ listed_ends t.left.now
     ] };
 
@@ -47,6 +54,7 @@ impl<'a> DrawSource for Source<'a> {
     fn draw(&mut self) -> Result<u32, Refusal> {
         match self {
             Source::Computed(source) => source.draw(),
+            Source::Mixed(source) => source.draw(),
             Source::Recorded(tape) => tape.draw(),
         }
     }
@@ -55,6 +63,7 @@ impl<'a> DrawSource for Source<'a> {
     fn start_row(&mut self, row: u32) {
         match self {
             Source::Computed(source) => source.start_row(row),
+            Source::Mixed(source) => source.start_row(row),
             Source::Recorded(tape) => tape.start_row(row),
         }
     }

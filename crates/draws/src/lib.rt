@@ -3,6 +3,7 @@
 
 pub mod congruential;
 pub mod either;
+pub mod mixed;
 pub mod source;
 pub mod tape;
 pub mod ticket;
