@@ -1,0 +1,4 @@
+mod Each
+mod Filled
+pub mod Moves
+mod Whole

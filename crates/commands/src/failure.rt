@@ -1,0 +1,56 @@
+// Why a command was not carried out.
+use std::alloc::AllocError;
+use std::io;
+
+// The line is help, or wrong by its form; a word is wrong by what it says; or the work failed.
+#[derive(Drop)]
+pub enum Failure {
+    Line(clap::Error),
+    Words(anyhow::Error),
+    Work(anyhow::Error),
+}
+
+impl From<clap::Error> for Failure {
+    fn from(error: clap::Error) -> Failure {
+        Failure::Line(error)
+    }
+}
+
+impl From<anyhow::Error> for Failure {
+    fn from(error: anyhow::Error) -> Failure {
+        Failure::Work(error)
+    }
+}
+
+impl From<io::Error> for Failure {
+    fn from(error: io::Error) -> Failure {
+        Failure::Work(anyhow::Error::from(error))
+    }
+}
+
+impl From<AllocError> for Failure {
+    fn from(error: AllocError) -> Failure {
+        Failure::Work(anyhow::Error::from(error))
+    }
+}
+
+impl Failure {
+    // Tells it, and answers the status with which the program ends. Help goes to standard output, and
+    // has the status 0.
+    pub fn told(&self, rt: &HostRuntime) -> u8 {
+        match self {
+            Failure::Line(error) => {
+                let _ = error.print(rt);
+                if error.use_stderr() { 2 } else { 0 }
+            }
+            Failure::Words(error) => {
+                let _ = eprintln!(rt; "junction: {error}");
+                2
+            }
+            Failure::Work(error) => {
+                let _ = eprintln!(rt; "junction: {error}");
+                1
+            }
+        }
+    }
+}

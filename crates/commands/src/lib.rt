@@ -1,0 +1,42 @@
+// The commands of the program: what is asked for on the command line, done and printed.
+#![tactic(auto)]
+
+mod batches;
+mod check;
+mod command;
+mod failure;
+mod files;
+mod history;
+mod line;
+mod options;
+mod possible;
+mod replay;
+mod sources;
+mod walk;
+
+use crate::failure::Failure;
+use crate::line::command_line;
+
+// Does what the words of a command line ask for, the first of which is the program's name.
+fn carried_out(rt: &HostRuntime, words: &[String]) -> Result<(), Failure> {
+    let matches = command_line(rt.alloc())?.try_get_matches_from(words)?;
+    match matches.subcommand() {
+        Some(("batch", given)) => batches::run_batch(rt, given),
+        Some(("check", given)) => check::check(rt, given),
+        Some(("possible", given)) => possible::possible(rt, given),
+        Some(("regions", given)) => walk::regions(rt, given),
+        Some(("replay", given)) => replay::replay_file(rt, given),
+        Some(("run", given)) => history::run_plan(rt, given),
+        _ => Ok(rt.print(command_line(rt.alloc())?.render_help()?.as_str())?),
+    }
+}
+
+// Does what the words of a command line ask for, and tells on standard error where it fails.
+// Answers the status with which the program ends: 0, 1 where the work failed or was refused, 2 where
+// the words are wrong.
+pub fn answer(rt: &HostRuntime, words: &[String]) -> u8 {
+    match carried_out(rt, words) {
+        Ok(()) => 0,
+        Err(failure) => failure.told(rt),
+    }
+}

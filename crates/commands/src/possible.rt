@@ -1,0 +1,56 @@
+// What may happen first: the changes of stage 0 that are possible with all timers at zero.
+ghost use Rattle.std.specs.Prelude.{◌≡◌, ◌∷◌, [], map, IfOk};
+ghost use Rattle.run.specs.Calls.{entry_of};
+ghost use Rattle.runs.specs.Runs.{Offers, opening, told_of};
+ghost use Rattle.runs.specs.Tables.{plan_in};
+ghost use Rattle.commands.specs.Files.{rows_read};
+
+use crate::failure::Failure;
+use crate::files::PlanFile;
+use crate::options::file_of;
+use crate::replay::entries_of;
+use crate::sources::{Draws, Rule};
+use clap::ArgMatches;
+use describe::offered::OfferAtZero;
+use run::call::{Call, Entry, Reply};
+use runs::Standing;
+
+// Prints what a run shows where it opens: each possible change with its waits in seconds and in
+// steps, or how the run is decided there.
+fn print_opening(rt: &HostRuntime, entry: &Entry) -> anyhow::Result<()> {
+    let decided = "the run is decided at its opening";
+    match entry.standing {
+        Standing::Reached => println!(rt; "{decided}: the goal is reached in stage 0")?,
+        Standing::Failed => println!(rt; "{decided}: it fails in stage 0, which is to be avoided")?,
+        Standing::Open | Standing::Stuck => {}
+    }
+    if let Reply::Offered(offers) = &entry.reply {
+        if entry.standing.is_open() && offers.is_empty() {
+            println!(rt; "no change of stage 0 is possible")?;
+        }
+        for offer in offers.as_slice() {
+            println!(rt; "{}", OfferAtZero(*offer))?;
+        }
+    }
+    Ok(())
+}
+
+// Says what may happen first on the plan of a file.
+fn print_first(rt: &HostRuntime, path: &str) -> anyhow::Result<()> {
+    let file = PlanFile::open(rt, path)?;
+    // Nothing is drawn where a run opens.
+    let draws = Draws::Seed {
+        rule: Rule::Mixed,
+        seed: 0,
+    };
+    for entry in entries_of(rt, &file, &draws, 0, &[Call::Offers])?.iter() {
+        print_opening(rt, entry)?;
+    }
+    Ok(())
+}
+
+// Says what may happen first.
+pub fn possible(rt: &HostRuntime, given: &ArgMatches<'_>) -> Result<(), Failure> {
+    print_first(rt, file_of(given, "PLAN"))?;
+    Ok(())
+}

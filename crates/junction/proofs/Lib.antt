@@ -1,3 +1,0 @@
-mod Each
-mod Filled
-mod Whole

@@ -1,7 +1,0 @@
-use Rattle.std.proofs.Common.{map}
-use Rattle.describe.specs.Calls.{Asks}
-use Rattle.junction.specs.Words.{EachFor}
-use Rattle.junction.proofs.replay.calls_for.Given as goal
-
-abbrev pub invariant-loop-line : goal.invariant-loop-line
-invariant-loop-line l = EachFor Asks (map (λ x. x.now) l.yielded) l.calls.items
