@@ -4,10 +4,11 @@ use Rattle.std.proofs.lemmas.List.Sums.{sum_by-cons}
 use Rattle.runs.specs.Plans.{Plan}
 use Rattle.runs.specs.Runs.{Draws, Run, Scheduler, opening, step_call}
 use Rattle.schedulers.specs.Meanings.{sampled_by}
-use Rattle.batch.specs.Batches.{Book, Made, Progress, counted, first_runs, none_yet, one_more, one_row, run_from, stepped}
-use Rattle.batch.specs.Promised.{ABatchWithoutABindingAllowanceCountsEachRunByItself, granted_to, row_alone, standing_so}
+use Rattle.batch.specs.Batches.{Book, Made, Progress, counted, first_runs, none_yet, one_more, one_row, row_of, run_from, stepped}
+use Rattle.batch.specs.Promised.{ABatchWithoutABindingAllowanceCountsEachRunByItself, AnAllowanceThatDoesNotBindCountsEachRunByItself, granted_to, row_alone, standing_so, tally_alone}
 use Rattle.batch.specs.declared.BatchRow.{BatchRow}
 use Rattle.batch.specs.declared.Limits.{Limits}
+use Rattle.batch.specs.declared.tally.Tally.{Tally}
 use Rattle.batch.proofs.Telling.{granted_at_most}
 
 -- a limit that covers the granted steps of a run alters nothing
@@ -40,43 +41,48 @@ covered plan book f steps left j l =
     let enough : (run_from plan book f steps j).1 ≤ min steps left = omega (arith, granted_at_most plan f steps (opening plan (book j))) in
     stepped_enough plan f (min steps left) steps (opening plan (book j)) fewer enough
 
--- the row and the allowance left after some runs that it covers
-record Alone (plan : Plan) (book : Book) (steps n id left : ℕ) (p : Progress) : Type 0 where
-  its_row : p.row ≡ row_alone plan book steps n id
-  its_left : p.left ≡ left - granted_to plan book steps n id
+-- the tally and the allowance left after some runs that it covers
+record Alone (plan : Plan) (book : Book) (f : Scheduler) (steps n left : ℕ) (p : Progress) : Type 0 where
+  its_tally : p.tally ≡ tally_alone plan book f steps n
+  its_left : p.left ≡ left - granted_to plan book f steps n
 
 -- one run more
-alone_again : (plan : Plan) (book : Book) (steps n id left : ℕ) (p : Progress) → granted_to plan book steps (suc n) id ≤ left → Alone plan book steps n id left p → Alone plan book steps (suc n) id left (one_more plan book steps n p)
+alone_again : (plan : Plan) (book : Book) (f : Scheduler) (steps n left : ℕ) (p : Progress) → granted_to plan book f steps (suc n) ≤ left → Alone plan book f steps n left p → Alone plan book f steps (suc n) left (one_more plan book f steps n p)
 unfolding granted_to standing_so
-alone_again plan book steps n id left p l h =
-    let alone : Run × ℕ = run_from plan book (sampled_by id) steps n in
-    let made : Run × ℕ = run_from plan book (sampled_by p.row.identifier) (min steps p.left) n in
+alone_again plan book f steps n left p l h =
+    let alone : Run × ℕ = run_from plan book f steps n in
+    let made : Run × ℕ = run_from plan book f (min steps p.left) n in
     let room : alone.1 ≤ p.left = omega (arith, h.its_left) in
-    let same : made ≡ alone = ap (λ (row : BatchRow). run_from plan book (sampled_by row.identifier) (min steps p.left) n) h.its_row ∙ covered plan book (sampled_by id) steps p.left n room in
+    let same : made ≡ alone = covered plan book f steps p.left n room in
     record {
-      its_row = λ i. counted (same i).0.standing (h.its_row i);
+      its_tally = λ i. counted (same i).0.standing (h.its_tally i);
       its_left = omega (arith, h.its_left, ap (λ (z : Run × ℕ). z.1) same);
     }
 
--- all runs of an identifier
-runs_alone : (plan : Plan) (book : Book) (draws : Draws) (steps n id left : ℕ) → granted_to plan book steps n id ≤ left → Alone plan book steps n id left (first_runs plan book steps n (none_yet id left draws))
+-- all runs of a scheduler
+runs_alone : (plan : Plan) (book : Book) (draws : Draws) (f : Scheduler) (steps n left : ℕ) → granted_to plan book f steps n ≤ left → Alone plan book f steps n left (first_runs plan book f steps n (none_yet left draws))
 unfolding first_runs granted_to standing_so
-runs_alone plan book draws steps zero id left l = record { its_row = refl; its_left = omega arith }
-runs_alone plan book draws steps (suc n) id left l =
-    alone_again plan book steps n id left (first_runs plan book steps n (none_yet id left draws)) l (runs_alone plan book draws steps n id left (omega arith))
+runs_alone plan book draws f steps zero left l = record { its_tally = refl; its_left = omega arith }
+runs_alone plan book draws f steps (suc n) left l =
+    alone_again plan book f steps n left (first_runs plan book f steps n (none_yet left draws)) l (runs_alone plan book draws f steps n left (omega arith))
+
+-- and so the tally of a scheduler
+pub one_counts_each_by_itself : (plan : Plan) (book : Book) (draws : Draws) (limits : Limits) (f : Scheduler) → AnAllowanceThatDoesNotBindCountsEachRunByItself plan book draws limits f
+one_counts_each_by_itself plan book draws limits f l =
+    (runs_alone plan book draws f limits.steps limits.runs limits.allowance l).its_tally
 
 -- all rows of more identifiers
-rows_alone : (plan : Plan) (book : Book) (limits : Limits) (m : Made) (ids : List ℕ) → sum_by (granted_to plan book limits.steps limits.runs) ids ≤ m.left → (fold (one_row plan book limits) m ids).rows ≡ m.rows ++ map (row_alone plan book limits.steps limits.runs) ids
+rows_alone : (plan : Plan) (book : Book) (limits : Limits) (m : Made) (ids : List ℕ) → sum_by (λ id. granted_to plan book (sampled_by id) limits.steps limits.runs) ids ≤ m.left → (fold (one_row plan book limits) m ids).rows ≡ m.rows ++ map (row_alone plan book limits.steps limits.runs) ids
 rows_alone plan book limits m [] l = sym (append-nil m.rows)
 rows_alone plan book limits m (id ∷ ids) l =
-    let granted : ℕ → ℕ = granted_to plan book limits.steps limits.runs in
+    let granted : ℕ → ℕ = λ i. granted_to plan book (sampled_by i) limits.steps limits.runs in
     let both : granted id + sum_by granted ids ≤ m.left = omega (arith, sum_by-cons granted id ids) in
-    let first = runs_alone plan book m.coming limits.steps limits.runs id m.left (omega arith) in
+    let first = runs_alone plan book m.coming (sampled_by id) limits.steps limits.runs m.left (omega arith) in
     let row : BatchRow = row_alone plan book limits.steps limits.runs id in
     let rest = rows_alone plan book limits (one_row plan book limits m id) ids (omega (arith, first.its_left)) in
-    rest ∙ (ap (λ (r : BatchRow). (m.rows ++ r ∷ []) ++ map (row_alone plan book limits.steps limits.runs) ids) first.its_row ∙ append_assoc m.rows (row ∷ []) (map (row_alone plan book limits.steps limits.runs) ids))
+    rest ∙ (ap (λ (t : Tally). (m.rows ++ row_of id t ∷ []) ++ map (row_alone plan book limits.steps limits.runs) ids) first.its_tally ∙ append_assoc m.rows (row ∷ []) (map (row_alone plan book limits.steps limits.runs) ids))
 
--- and so all rows of a batch
+-- and all rows of a batch
 pub counts_each_by_itself : (plan : Plan) (book : Book) (draws : Draws) (limits : Limits) (ids : List ℕ) → ABatchWithoutABindingAllowanceCountsEachRunByItself plan book draws limits ids
 counts_each_by_itself plan book draws limits ids l =
     rows_alone plan book limits (record { rows = []; left = limits.allowance; coming = draws }) ids l

@@ -1,8 +1,12 @@
 -- The steps of a run that is stepped until one is refused.
 use Rattle.std.proofs.Common.{◌≡◌, ℕ, zero, suc, ◌<◌, ◌≤◌, Bool, true, false, cond, replicate, is_ok, Ok, Err, Result, refl, arith}
+use Rattle.offers.specs.Checked.{checked}
+use Rattle.offers.proofs.Checking.{checked_sound}
+use Rattle.plan.specs.declared.handed.Handed.{Handed}
 use Rattle.rows.specs.declared.refusal.Refusal.{Refusal}
 use Rattle.runs.specs.Plans.{Plan, Sound}
 use Rattle.runs.specs.Runs.{Run, Scheduler, Step, after, answered, opening, step_call}
+use Rattle.runs.specs.Tables.{plan_in}
 use Rattle.runs.specs.Telling.{AllGranted, DrawsFit, Grants}
 use Rattle.runs.specs.declared.Answer.{Answer}
 use Rattle.runs.proofs.Agreement.{regions_and_ticks_tell_the_same}
@@ -45,7 +49,7 @@ by_steps plan f (suc n) run = go (is_ok (step_call plan f run).0) refl (by_steps
     go false e h = record { no_more = omega arith; its_steps = refl; granted = tt; then_refused = λ l. e }
 
 -- the steps of every run of a batch tell a tick run
-pub every_run_tells : (plan : Plan) (book : Book) → Sound plan → ((row : ℕ) → DrawsFit (book row)) → EveryRunOfABatchTellsATickRun plan book
+every_run_tells : (plan : Plan) (book : Book) → Sound plan → ((row : ℕ) → DrawsFit (book row)) → EveryRunOfABatchTellsATickRun plan book
 every_run_tells plan book sound fit f n j =
     let h = by_steps plan f n (opening plan (book j)) in
     record {
@@ -55,6 +59,12 @@ every_run_tells plan book sound fit f n j =
       then_refused = h.then_refused;
       told = (regions_and_ticks_tell_the_same plan (book j) sound (fit j)).every_list_of_calls_tells_a_tick_run (replicate (run_from plan book f n j).1 (Step f));
     }
+
+-- and so of every run on handed tables, whether they pass or not
+-- No search closes an answer by it: `book_fits`, which it asks for, is a law that is a function, and a search takes none.
+pub every_run_of_handed : (h : Handed) (book : Book) → ((row : ℕ) → DrawsFit (book row)) → EveryRunOfABatchTellsATickRun (plan_in (checked h)) book
+every_run_of_handed h book fits =
+    every_run_tells (plan_in (checked h)) book (checked_sound h) fits
 
 -- no more steps are granted than may be
 pub granted_at_most : (plan : Plan) (f : Scheduler) (n : ℕ) (run : Run) → (stepped plan f n run).1 ≤ n

@@ -12,6 +12,7 @@ use Rattle.runs.specs.declared.Standing.TheVariants.{Open, Reached, Failed, Stuc
 use Rattle.schedulers.specs.Meanings.{sampled_by}
 use Rattle.batch.specs.declared.BatchRow.{BatchRow}
 use Rattle.batch.specs.declared.Limits.{Limits}
+use Rattle.batch.specs.declared.tally.Tally.{Tally}
 
 -- the draws of each row of a source
 abbrev pub Book : Type 0
@@ -32,32 +33,47 @@ run_from plan book f n j = stepped plan f n (opening plan (book j))
 abbrev pub counting : Standing → Standing → ℕ → ℕ
 counting way stands n = cond (standing_number way == standing_number stands) (n + 1) n
 
--- the row of an identifier after one more run, which stands so; an open run is unfinished
-abbrev pub counted : Standing → BatchRow → BatchRow
-counted s row =
-    record { identifier = row.identifier; reached = counting Reached s row.reached; failed = counting Failed s row.failed; stuck = counting Stuck s row.stuck; unfinished = counting Open s row.unfinished }
+-- a tally after one more run, which stands so; an open run is unfinished
+abbrev pub counted : Standing → Tally → Tally
+counted s t =
+    record { reached = counting Reached s t.reached; failed = counting Failed s t.failed; stuck = counting Stuck s t.stuck; unfinished = counting Open s t.unfinished }
 
--- where the runs of one identifier are: its row so far, what is left of the allowance, and the draws to come
+-- where the runs of one scheduler are: their tally so far, what is left of the allowance, and the draws to come
 pub record Progress : Type 0 where
-  pub row : BatchRow
+  pub tally : Tally
   pub left : ℕ
   pub coming : Draws
 
--- before the first run of an identifier
-abbrev pub none_yet : ℕ → ℕ → Draws → Progress
-none_yet id left draws =
-    record { row = record { identifier = id; reached = 0; failed = 0; stuck = 0; unfinished = 0 }; left = left; coming = draws }
+-- before the first run of a scheduler
+abbrev pub none_yet : ℕ → Draws → Progress
+none_yet left draws =
+    record { tally = record { reached = 0; failed = 0; stuck = 0; unfinished = 0 }; left = left; coming = draws }
 
--- after the run that starts row j: it is counted by how it stands, and its granted steps are taken from the allowance
-abbrev pub one_more : Plan → Book → ℕ → ℕ → Progress → Progress
-one_more plan book steps j p =
-    let made : Run × ℕ = run_from plan book (sampled_by p.row.identifier) (min steps p.left) j in
-    record { row = counted made.0.standing p.row; left = p.left - made.1; coming = made.0.coming }
+-- after the run of a scheduler that starts row j: it is counted by how it stands, and its granted steps are taken from the allowance
+abbrev pub one_more : Plan → Book → Scheduler → ℕ → ℕ → Progress → Progress
+one_more plan book f steps j p =
+    let made : Run × ℕ = run_from plan book f (min steps p.left) j in
+    record { tally = counted made.0.standing p.tally; left = p.left - made.1; coming = made.0.coming }
 
--- after the runs that start rows 0 to n - 1
-unfoldable pub first_runs : Plan → Book → ℕ → ℕ → Progress → Progress
-first_runs plan book steps zero p = p
-first_runs plan book steps (suc n) p = one_more plan book steps n (first_runs plan book steps n p)
+-- after the runs of a scheduler that start rows 0 to n - 1
+unfoldable pub first_runs : Plan → Book → Scheduler → ℕ → ℕ → Progress → Progress
+first_runs plan book f steps zero p = p
+first_runs plan book f steps (suc n) p = one_more plan book f steps n (first_runs plan book f steps n p)
+
+-- all runs of a scheduler, with an allowance of its own
+abbrev pub runs_made : Plan → Book → Draws → Limits → Scheduler → Progress
+runs_made plan book draws limits f =
+    first_runs plan book f limits.steps limits.runs (none_yet limits.allowance draws)
+
+-- the row of an identifier whose runs come to this tally
+abbrev pub row_of : ℕ → Tally → BatchRow
+row_of id t =
+    record { identifier = id; reached = t.reached; failed = t.failed; stuck = t.stuck; unfinished = t.unfinished }
+
+-- the tally in a row
+abbrev pub tally_of : BatchRow → Tally
+tally_of row =
+    record { reached = row.reached; failed = row.failed; stuck = row.stuck; unfinished = row.unfinished }
 
 -- where a batch is: its rows so far, what is left of the allowance, and the draws to come
 pub record Made : Type 0 where
@@ -65,11 +81,11 @@ pub record Made : Type 0 where
   pub left : ℕ
   pub coming : Draws
 
--- after all runs of one more identifier
+-- after all runs of one more identifier, which are those of the sampled scheduler of that identifier
 abbrev pub one_row : Plan → Book → Limits → Made → ℕ → Made
 one_row plan book limits m id =
-    let p : Progress = first_runs plan book limits.steps limits.runs (none_yet id m.left m.coming) in
-    record { rows = m.rows ++ p.row ∷ []; left = p.left; coming = p.coming }
+    let p : Progress = first_runs plan book (sampled_by id) limits.steps limits.runs (none_yet m.left m.coming) in
+    record { rows = m.rows ++ row_of id p.tally ∷ []; left = p.left; coming = p.coming }
 
 -- all runs of all identifiers, in their order
 abbrev pub all_made : Plan → Book → Draws → Limits → List ℕ → Made
@@ -103,3 +119,10 @@ Batched plan book draws limits ids log log' left (Ok _) =
     (refusal_of (length ids) limits (length (past_of log)) ≡ None) × Joined (all_made plan book draws limits ids).rows log log' × (left ≡ (all_made plan book draws limits ids).coming)
 Batched plan book draws limits ids log log' left (Err e) =
     (refusal_of (length ids) limits (length (past_of log)) ≡ Some e) × (log' ≡ log) × (left ≡ draws)
+
+-- the runs of one scheduler with these draws left: they come to this tally, or they are refused as a batch of one identifier is
+abbrev pub Tallied : Plan → Book → Draws → Limits → Scheduler → Draws → Result Tally Refusal → Type 0
+Tallied plan book draws limits f left (Ok t) =
+    (refusal_of 1 limits 1 ≡ None) × (t ≡ (runs_made plan book draws limits f).tally) × (left ≡ (runs_made plan book draws limits f).coming)
+Tallied plan book draws limits f left (Err e) =
+    (refusal_of 1 limits 1 ≡ Some e) × (left ≡ draws)

@@ -10,9 +10,10 @@ use crate::job::Job;
 use crate::watch::Watch;
 use draws::source::DrawSource;
 use logs::Log;
+use schedulers::sampled::Sampled;
 
 impl Job<'_> {
-    // Makes all runs of an identifier, and enters its row. Tells what is left of the allowance.
+    // Makes all runs of an identifier's sampled scheduler, and enters its row. Tells what is left of the allowance.
     fn enter_row<D: DrawSource, W: Watch>(
         &self,
         source: &mut D,
@@ -29,10 +30,11 @@ impl Job<'_> {
         ensures book_kept { D.DrawSource.book source.new ≡ D.DrawSource.book source.old }
         ensures same_rows { log.new.rows.ghost_name ≡ log.old.rows.ghost_name }
     {
-        let done = self.runs_of(source, identifier, left);
+        let done = self.runs_of(source, &Sampled { identifier }, left);
+        let row = BatchRow::of(identifier, done.tally);
         // Not refused: there is room for the row.
-        let _ = log.enter(done.row);
-        watch.row_done(&done.row);
+        let _ = log.enter(row);
+        watch.row_done(&row);
         done.left
     }
 

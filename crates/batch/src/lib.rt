@@ -1,4 +1,5 @@
-// Batches: many runs of sampled schedulers, and what they come to.
+// Batches: many runs of sampled schedulers, and what they come to. Beside them, the same runs by any
+// one scheduler.
 #![tactic(auto)]
 
 ghost use Rattle.std.specs.Prelude.{◌≡◌, true, is_err};
@@ -8,10 +9,12 @@ ghost use Rattle.offers.specs.Checked.{checked};
 ghost use Rattle.runs.specs.Tables.{plan_in};
 
 mod admission;
+pub mod beside;
 mod counting;
 mod entering;
 mod job;
 pub mod ranking;
+pub mod tally;
 #[cfg(test)]
 mod tests;
 pub mod watch;

@@ -1,5 +1,7 @@
 // Batches on a plan of two timers, x up to 3 seconds and y up to 2.
+use crate::beside::runs_by;
 use crate::ranking::{fewest_reached, most_reached};
+use crate::tally::Tally;
 use crate::watch::Unwatched;
 use crate::{BatchRow, Limits, batch};
 use draws::congruential::Congruential;
@@ -10,6 +12,9 @@ use plan::handed::{Handed, Tables};
 use plan::records::Records;
 use rows::refusal::Refusal;
 use rows::tables::{ChangeRow, ComparisonRow, GoalRow, OutcomeRow, StageRow, TimerRow};
+use schedulers::first_last::{Earliest, Latest};
+use schedulers::sampled::Sampled;
+use schedulers::scheduler::Scheduler;
 
 static TIMERS: [TimerRow; 2] = [TimerRow { ceiling: 3 }, TimerRow { ceiling: 2 }];
 
@@ -90,14 +95,8 @@ fn example() -> Rows {
     }
 }
 
-// Runs identifiers on a source.
-fn run_batch<D: DrawSource>(
-    source: &mut D,
-    identifiers: &[u32],
-    limits: Limits,
-    log: &mut Log<'_, BatchRow>,
-) -> Result<(), Refusal> {
-    let rows = example();
+// The example as handed tables.
+fn handed(rows: &Rows) -> Handed<'_> {
     let tables = Tables {
         timers: &TIMERS,
         comparisons: &rows.comparisons,
@@ -107,8 +106,18 @@ fn run_batch<D: DrawSource>(
         goals: &GOALS,
     };
     let counts = tables.counts();
+    Handed { tables, counts }
+}
+
+// Runs identifiers on a source.
+fn run_batch<D: DrawSource>(
+    source: &mut D,
+    identifiers: &[u32],
+    limits: Limits,
+    log: &mut Log<'_, BatchRow>,
+) -> Result<(), Refusal> {
     batch(
-        Handed { tables, counts },
+        handed(&example()),
         source,
         identifiers,
         limits,
@@ -167,6 +176,72 @@ fn a_run_without_allowance_or_draws_is_unfinished(rt: HostRuntime) {
         assert_eq!(rt; answer, Ok(()));
         assert_eq!(rt; log.entries(), made.as_slice());
     }
+}
+
+// What one scheduler comes to on a source.
+fn run_by<S: Scheduler, D: DrawSource>(
+    source: &mut D,
+    scheduler: &S,
+    limits: Limits,
+) -> Result<Tally, Refusal> {
+    runs_by(handed(&example()), source, scheduler, limits)
+}
+
+// Three rows of three draws. By the highest, 2^32 - 1, stage 0 changes to stage 1, and by 0 to itself with both timers reset.
+static MIXED: [u32; 9] = [u32::MAX, 0, 0, 0, u32::MAX, u32::MAX, 0, 0, u32::MAX];
+
+// The earliest leaves stage 0 after half a second, so x leads y by half a second in stage 1, and only the second change is possible: by 0 it
+// leads to stage 2, and by the highest draw to the goal. The latest leaves after 2 seconds, so x leads y by 2, and it takes the first
+// of two changes with the same highest wait, which leads to the goal by any draw.
+// Row 0: the second draw is 0, so the earliest fails, and the latest reaches. Row 1: the third is the highest, so both reach.
+// Row 2: both come to stage 1 at the last draw, and are open. Row 3: there is no draw, and both are open in stage 0.
+#[test]
+fn the_earliest_and_the_latest_come_to_their_tallies(rt: HostRuntime) {
+    let limits = limits(4, 10, 100);
+    assert_eq!(rt;
+        run_by(&mut Tape::new(&MIXED, 3), &Earliest, limits),
+        Ok(Tally {
+            reached: 1,
+            failed: 1,
+            stuck: 0,
+            unfinished: 2
+        })
+    );
+    assert_eq!(rt;
+        run_by(&mut Tape::new(&MIXED, 3), &Latest, limits),
+        Ok(Tally {
+            reached: 2,
+            failed: 0,
+            stuck: 0,
+            unfinished: 2
+        })
+    );
+}
+
+#[test]
+fn a_sampled_scheduler_comes_to_its_row(rt: HostRuntime) {
+    for identifier in [0, 4] {
+        let limits = limits(1_000, 1_000, 1_500);
+        let mut rows = [BatchRow::default()];
+        let mut log = Log::new(&mut rows);
+        let mut source = Congruential::new(0);
+        let mut beside = source;
+        assert_eq!(rt;
+            run_batch(&mut source, &[identifier], limits, &mut log),
+            Ok(())
+        );
+        let tally = run_by(&mut beside, &Sampled { identifier }, limits);
+        assert_eq!(rt; tally, Ok(rows[0].tally()));
+        assert_eq!(rt; beside, source);
+    }
+}
+
+#[test]
+fn a_scheduler_with_a_number_off_its_limits_is_refused(rt: HostRuntime) {
+    let mut source = Congruential::new(0);
+    let answer = run_by(&mut source, &Earliest, limits(10_001, 1, 1));
+    assert_eq!(rt; answer, Err(Refusal::BatchOffLimits));
+    assert_eq!(rt; source, Congruential::new(0));
 }
 
 // What a batch answers that has no rows to write to: 14 for numbers off their limits, and else 13.

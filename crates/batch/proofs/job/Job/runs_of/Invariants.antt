@@ -6,5 +6,5 @@ use Rattle.batch.proofs.job.Job.runs_of.Given as goal
 
 abbrev pub invariant-loop-row : goal.invariant-loop-row
 invariant-loop-row g l =
-    (progress_of (g.D.DrawSource.coming l.source) l.progress ≡ first_runs (plan_of l.self.plan) (g.D.DrawSource.book l.initial.source) l.self.limits.steps l.row (progress_of (g.D.DrawSource.coming l.initial.source) l.initial.progress))
+    (progress_of (g.D.DrawSource.coming l.source) l.progress ≡ first_runs (plan_of l.self.plan) (g.D.DrawSource.book l.initial.source) (g.S.Scheduler.meaning l.scheduler) l.self.limits.steps l.row (progress_of (g.D.DrawSource.coming l.initial.source) l.initial.progress))
     × (g.D.DrawSource.book l.source ≡ g.D.DrawSource.book l.initial.source)
