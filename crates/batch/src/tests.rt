@@ -187,14 +187,17 @@ fn run_by<S: Scheduler, D: DrawSource>(
     runs_by(handed(&example()), source, scheduler, limits)
 }
 
-// Three rows of three draws. By the highest, 2^32 - 1, stage 0 changes to stage 1, and by 0 to itself with both timers reset.
+// Three rows of three draws. By the highest, 2^32 - 1, stage 0 changes to stage 1, and by 0 to
+// itself with both timers reset.
 static MIXED: [u32; 9] = [u32::MAX, 0, 0, 0, u32::MAX, u32::MAX, 0, 0, u32::MAX];
 
-// The earliest leaves stage 0 after half a second, so x leads y by half a second in stage 1, and only the second change is possible: by 0 it
-// leads to stage 2, and by the highest draw to the goal. The latest leaves after 2 seconds, so x leads y by 2, and it takes the first
-// of two changes with the same highest wait, which leads to the goal by any draw.
-// Row 0: the second draw is 0, so the earliest fails, and the latest reaches. Row 1: the third is the highest, so both reach.
-// Row 2: both come to stage 1 at the last draw, and are open. Row 3: there is no draw, and both are open in stage 0.
+// The earliest leaves stage 0 after half a second, so x leads y by half a second in stage 1, and
+// only the second change is possible: by 0 it leads to stage 2, and by the highest draw to the
+// goal. The latest leaves after 2 seconds, so x leads y by 2, and it takes the first of two
+// changes with the same highest wait, which leads to the goal by any draw. Row 0: the second draw
+// is 0, so the earliest fails, and the latest reaches. Row 1: the third is the highest, so both
+// reach. Row 2: both come to stage 1 at the last draw, and are open. Row 3: there is no draw, and
+// both are open in stage 0.
 #[test]
 fn the_earliest_and_the_latest_come_to_their_tallies(rt: HostRuntime) {
     let limits = limits(4, 10, 100);
