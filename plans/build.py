@@ -158,7 +158,7 @@ def station(bus_mark, walk_mark, goal):
 
     # The main road has its green for 20 to 45 s.
     shortest, longest = at_least(GREEN, 20), at_most(GREEN, 45)
-    return plan_of_stages([60, 180, 180, 120], {
+    return plan_of_stages([60, 240, 240, 180], {
         # Of ten laps, the first to come is a bus in three, a pedestrian in four, and a car on the
         # side road in three, whose turn is next. That may be at any time from 2 s of green on.
         'main green': (NONE, [longest], [([at_least(GREEN, 2)], [
