@@ -158,13 +158,13 @@ def station(bus_mark, walk_mark, goal):
 
     # The main road has its green for 20 to 45 s.
     shortest, longest = at_least(GREEN, 20), at_most(GREEN, 45)
-    return plan_of_stages([60, 240, 240, 180], {
+    return plan_of_stages([60, 300, 300, 180], {
         # Of ten laps, the first to come is a bus in three, a pedestrian in four, and a car on the
-        # side road in three, whose turn is next. That may be at any time from 2 s of green on.
+        # side road in three. That may be at any time from 2 s of green on.
         'main green': (NONE, [longest], [([at_least(GREEN, 2)], [
             (3, 'main green, a bus waits', [STAGE, BUS]),
             (4, 'main green, a call waits', [STAGE, CALL]),
-            (3, 'amber, side road next', [STAGE])])]),
+            (3, 'main green, a car waits', [STAGE])])]),
         # A bus has its amber within 20 s of asking. In three of ten such waits somebody calls.
         'main green, a bus waits': (NONE, [longest, at_most(BUS, 20)], [([shortest], [
             (7, 'amber, bus next', [STAGE]),
@@ -175,6 +175,8 @@ def station(bus_mark, walk_mark, goal):
             (3, 'main green, both wait', [STAGE, BUS])])]),
         'main green, both wait': (NONE, [longest, at_most(BUS, 20)], [([shortest], [
             (1, 'amber, both wait', [STAGE])])]),
+        'main green, a car waits': (NONE, [longest], [([shortest], [
+            (1, 'amber, side road next', [STAGE])])]),
 
         'amber, bus next': intergreen(3, [(1, 'red, bus next', [STAGE])]),
         'red, bus next': intergreen(2, [(1, 'bus green', [STAGE])]),
