@@ -1,5 +1,5 @@
 -- The moves of a walk, and the words that ask for them.
-use Rattle.std.specs.Prelude.{◌≡◌, ℕ, ◌^◌, List, [], ◌∷◌, ◌++◌, Ok, Err, Result, bit_or, codes, cond, fold, nat_lt, ⊤}
+use Rattle.std.specs.Prelude.{◌≡◌, ℕ, ◌^◌, List, [], ◌∷◌, ◌++◌, Err, Result, bit_or, codes, cond, fold, nat_lt, ⊤}
 use Rattle.describe.specs.Identifiers.{parts_of}
 use Rattle.describe.specs.Words.{Writes}
 use Rattle.region.specs.Resetting.{reset_by}

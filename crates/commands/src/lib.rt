@@ -13,9 +13,11 @@ mod possible;
 mod replay;
 mod sources;
 mod walk;
+mod words;
 
 use crate::failure::Failure;
 use crate::line::command_line;
+use crate::words::given_words;
 
 // Does what the words of a command line ask for, the first of which is the program's name.
 fn carried_out(rt: &HostRuntime, words: &[String]) -> Result<(), Failure> {
@@ -38,5 +40,13 @@ pub fn answer(rt: &HostRuntime, words: &[String]) -> u8 {
     match carried_out(rt, words) {
         Ok(()) => 0,
         Err(failure) => failure.told(rt),
+    }
+}
+
+// Does what the program's own command line asks for, and answers its status likewise.
+pub fn answer_line(rt: &HostRuntime) -> u8 {
+    match given_words(rt) {
+        Ok(words) => answer(rt, &words),
+        Err(error) => Failure::Words(error).told(rt),
     }
 }

@@ -84,25 +84,26 @@ const A_MOVE: &str = "a move is 'wait STEPS' or 'reset x0,x1'";
 const MOST_MOVES: usize = 10_000;
 
 // The moves that words ask for, two words each. Words that ask for none are told with their place.
-#[tactic(auto, using(crate::proofs::Moves::one_move_more))]
+#[tactic(auto, using(crate::proofs::Moves::one_move_more, crate::proofs::Moves::all_moves))]
 fn moves_for(heap: Global, words: &[&str]) -> anyhow::Result<Vec<Move>>
     ensures { IfOk result (λ ms. AskMoves (map (λ w. w.now) words.now) ms.items) }
 {
     let mut moves = Vec::new(heap);
-    let mut left = words;
-    while let Some((name, rest)) = left.split_first() {
-        let number = moves.len() + 1;
-        if number > MOST_MOVES {
-            return Err(anyhow!("a walk has at most {MOST_MOVES} moves"));
-        }
-        let Some((value, rest)) = rest.split_first() else {
-            return Err(anyhow!("move {number}, '{name}', has no value: {A_MOVE}"));
-        };
+    if words.len() / 2 > MOST_MOVES {
+        return Err(anyhow!("a walk has at most {MOST_MOVES} moves"));
+    }
+    for place in 0..words.len() / 2 {
+        let name = words[2 * place];
+        let value = words[2 * place + 1];
+        let number = place + 1;
         let asked = parsed(name, value).context(format_args!(
             "move {number}, '{name} {value}', is none: {A_MOVE}"
         ))?;
         moves.push(asked)?;
-        left = rest;
+    }
+    if words.len() % 2 == 1 {
+        let word = words[words.len() - 1];
+        return Err(anyhow!("the last word, '{word}', has no value: {A_MOVE}"));
     }
     Ok(moves)
 }

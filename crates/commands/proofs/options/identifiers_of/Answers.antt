@@ -1,7 +1,6 @@
-use Rattle.std.proofs.Common.{◌≡◌, List, ℕ, None, Option, refl, sym, ◌∙◌, subst}
+use Rattle.std.proofs.Common.{refl, sym, ◌∙◌}
 use Rattle.std.proofs.lemmas.Iterator.{YieldsList-from_range, items_from_drains}
 use Rattle.std.proofs.lemmas.List.{map-id}
-use Rattle.commands.specs.Options.{ListFor}
 use Rattle.commands.proofs.options.identifiers_of.Goals as goal
 
 pub returns-in_ok-collect-in-None : goal.returns-in_ok-collect-in-None
