@@ -1,7 +1,10 @@
 pub mod FirstWords
+pub mod GreatestLoss
 pub mod Identified
 pub mod Inclusive
 pub mod Lowest
 pub mod Parts
+pub mod PlainText
+pub mod PlanFiles
 pub mod Told
 pub mod WordLists

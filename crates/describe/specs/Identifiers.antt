@@ -1,5 +1,5 @@
 -- Which numbers a word lists.
-use Rattle.std.specs.Prelude.{◌≡◌, ℕ, ◌+◌, ◌-◌, ◌≤◌, ◌⊎◌, List, ◌++◌, ◌==◌, codes, length}
+use Rattle.std.specs.Prelude.{◌≡◌, ℕ, ◌+◌, ◌-◌, ◌<◌, ◌≤◌, ◌⊎◌, List, ◌++◌, ◌==◌, Some, codes, length, slice_get}
 use Rattle.std.specs.List.{range_with_len, slice_split}
 use Rattle.describe.specs.Words.{WriteAll, Writes}
 
@@ -27,3 +27,12 @@ parts_of word = slice_split (λ b. b == 44) word
 abbrev pub Lists : List ℕ → List ℕ → Type 0
 Lists word numbers =
     (length numbers ≤ 1000) × (CountsUp word numbers ⊎ WriteAll (parts_of word) numbers)
+
+-- a number stands at two places of a list
+abbrev pub IsListedTwice : List ℕ → ℕ → Type 0
+IsListedTwice numbers n =
+    (i : ℕ) × (j : ℕ) × (i < j) × (slice_get numbers i ≡ Some n) × (slice_get numbers j ≡ Some n)
+
+-- no number stands at two places of a list
+abbrev pub AllDiffer : List ℕ → Type 0
+AllDiffer numbers = (n : ℕ) → IsListedTwice numbers n → ⊥

@@ -1,6 +1,10 @@
 pub mod Calls
 pub mod Histories
 pub mod Identifiers
+pub mod Kinds
+pub mod Losses
 pub mod Names
 pub mod Numbers
+pub mod Shares
+pub mod Warnings
 pub mod Words

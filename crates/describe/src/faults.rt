@@ -14,6 +14,26 @@ impl fmt::Display for ShownRefusal {
     }
 }
 
+// What a refused reset of timers broke: only timers are named there, so a name that is not there is
+// a timer's.
+#[derive(Clone, Copy)]
+pub struct RefusedReset(pub Refusal);
+
+impl fmt::Display for RefusedReset {
+    fn fmt<W: fmt::Write>(&self, f: &mut fmt::Formatter<W>) -> fmt::Result {
+        match self.0 {
+            Refusal::NotThere => {
+                let number = self.0.number();
+                write!(
+                    f,
+                    "refused {number}: the reset names a timer that is not there"
+                )
+            }
+            refusal => write!(f, "{}", ShownRefusal(refusal)),
+        }
+    }
+}
+
 // The rule that was broken, its number, and where it was.
 #[derive(Clone, Copy)]
 pub struct Refused(pub Fault);

@@ -1,6 +1,6 @@
 // Identifiers of schedulers in words: `0..9`, or `3,5,8`.
 ghost use Rattle.std.specs.Prelude.{◌≡◌, ℕ, ◌<◌, ◌≤◌, List, length, IfOk, MatchOption};
-ghost use Rattle.describe.specs.Identifiers.{Lists, numbers_from_to, parts_of};
+ghost use Rattle.describe.specs.Identifiers.{AllDiffer, IsListedTwice, Lists, numbers_from_to, parts_of};
 ghost use Rattle.describe.specs.Words.{WriteAll};
 
 use crate::numbers::number;
@@ -49,4 +49,16 @@ pub fn identifiers(heap: Global, word: &str) -> Result<Option<Vec<u32>>, AllocEr
         },
         None => listed(heap, word),
     }
+}
+
+// The first identifier that also stands at an earlier place of the list, if one does.
+pub fn listed_twice(identifiers: &[u32]) -> Option<u32>
+    ensures { MatchOption result (AllDiffer identifiers.now) (λ n. IsListedTwice identifiers.now n) }
+{
+    for i in 0..identifiers.len() {
+        if identifiers[..i].contains(&identifiers[i]) {
+            return Some(identifiers[i]);
+        }
+    }
+    None
 }

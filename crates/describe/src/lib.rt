@@ -3,16 +3,22 @@
 
 pub mod batches;
 pub mod calls;
+pub mod csv_rows;
 pub mod entries;
 #[cfg(test)]
 mod examples;
 pub mod faults;
 pub mod history;
 pub mod identifiers;
+pub mod kinds;
 mod lists;
+pub mod losses;
 pub mod numbers;
 pub mod offered;
 pub mod plans;
 pub mod regions;
 mod seconds;
+pub mod shares;
+pub mod tables;
 mod timers;
+mod warnings;

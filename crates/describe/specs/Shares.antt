@@ -1,0 +1,17 @@
+-- Shares of runs in tenths of a percent, and how far off such a share may be.
+use Rattle.std.specs.Prelude.{ℕ, ◌+◌, ◌*◌, ◌<◌, ◌≤◌}
+
+-- t tenths of a percent are nearest to the share of the runs that reached; halfway between two, the greater is
+pub record IsNearestTenth (reached runs t : ℕ) : Type 0 where
+  pub not_above : 2 * t * runs ≤ 2000 * reached + runs
+  pub not_below : 2000 * reached + runs < (2 * t + 2) * runs
+
+-- so many runs say a share to within t tenths of a percent, 95 times out of 100
+abbrev pub AreEnough : ℕ → ℕ → Type 0
+AreEnough runs t = 1844440 ≤ runs * t * t
+
+-- the least half-width that so many runs are enough for, or 100 %, which no share is off by
+pub record IsLeastHalfWidth (runs t : ℕ) : Type 0 where
+  pub enough : t < 1000 → AreEnough runs t
+  pub least : (k : ℕ) → k < t → AreEnough runs k → ⊥
+  pub at_most_all : t ≤ 1000

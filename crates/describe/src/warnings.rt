@@ -1,0 +1,88 @@
+// What is said where many runs of a scheduler are stuck or unfinished.
+ghost use Rattle.std.specs.Prelude.{◌≡◌, IfNone, IfSome};
+ghost use Rattle.describe.specs.Losses.{losses_of, warned_in};
+ghost use Rattle.describe.specs.Warnings.{IsWarning};
+
+use crate::losses::{Beside, Loss, greatest_loss, warned_beside, warned_rows};
+use crate::shares::Share;
+use batch::BatchRow;
+use schedulers::chooser::Chooser;
+use std::fmt;
+
+// What the two counts that are warned of mean.
+const MEANING: &str = "stuck: no change was possible any more; \
+    unfinished: the steps, the allowance or the draws were used up; neither counts as reached";
+
+// How many of the schedulers have more than 1 % of their runs stuck or unfinished, and which has
+// the most.
+#[derive(Clone, Copy)]
+pub(crate) struct Warning {
+    pub warned: usize,
+    pub schedulers: usize,
+    pub worst: Loss,
+    pub runs: u32,
+}
+
+impl Warning {
+    // The warning that is due, if one is.
+    pub(crate) fn of(rows: &[BatchRow], beside: &[Beside], runs: u32) -> Option<Warning>
+        ensures none { IfNone result (warned_in runs (losses_of rows.now beside.now) ≡ 0) }
+        ensures so { IfSome result (IsWarning runs (losses_of rows.now beside.now)) }
+    {
+        let warned = warned_rows(rows, runs) + warned_beside(beside, runs);
+        let worst = greatest_loss(rows, beside)?;
+        if warned == 0 {
+            return None;
+        }
+        Some(Warning {
+            warned,
+            schedulers: rows.len() + beside.len(),
+            worst,
+            runs,
+        })
+    }
+}
+
+impl fmt::Display for Warning {
+    fn fmt<W: fmt::Write>(&self, f: &mut fmt::Formatter<W>) -> fmt::Result {
+        let Warning {
+            warned,
+            schedulers,
+            worst,
+            runs,
+        } = *self;
+        let noun = if schedulers == 1 {
+            "scheduler"
+        } else {
+            "schedulers"
+        };
+        write!(
+            f,
+            "warning: with {warned} of {schedulers} {noun} more than 1% of the runs are stuck"
+        )?;
+        write!(
+            f,
+            " or unfinished, at most {}; {MEANING}",
+            Lossy { loss: worst, runs }
+        )
+    }
+}
+
+// The loss of a scheduler, as `66.0% with scheduler 4`.
+#[derive(Clone, Copy)]
+struct Lossy {
+    loss: Loss,
+    runs: u32,
+}
+
+impl fmt::Display for Lossy {
+    fn fmt<W: fmt::Write>(&self, f: &mut fmt::Formatter<W>) -> fmt::Result {
+        let lost = u32::try_from(self.loss.runs).unwrap_or(u32::MAX);
+        let share = Share::of(lost, self.runs);
+        match self.loss.by {
+            Chooser::Earliest => write!(f, "{share} with earliest"),
+            Chooser::Latest => write!(f, "{share} with latest"),
+            Chooser::Sampled(identifier) => write!(f, "{share} with scheduler {identifier}"),
+        }
+    }
+}
