@@ -2,6 +2,7 @@ pub mod FirstWords
 pub mod GreatestLoss
 pub mod Identified
 pub mod Inclusive
+pub mod LineByLine
 pub mod Lowest
 pub mod Parts
 pub mod PlainText

@@ -1,5 +1,5 @@
 -- How the file of a sound plan begins, and how long it is at least.
-use Rattle.std.proofs.Common.{◌≡◌, ℕ, suc, ◌+◌, ◌/◌, ◌%◌, ◌<◌, ◌≤◌, false, List, [], ◌∷◌, ◌++◌, length, refl, sym, ap, ◌∙◌, subst, arith, length-append}
+use Rattle.std.proofs.Common.{◌≡◌, ℕ, ◌+◌, ◌/◌, ◌%◌, ◌≤◌, false, List, [], ◌∷◌, ◌++◌, length, refl, ap, ◌∙◌, arith, length-append}
 use Rattle.std.specs.List.{flat_map}
 use Rattle.rows.specs.Plans.{PlanRows, file_of, section_bytes, timer_bytes, comparison_bytes, stage_bytes, change_bytes, outcome_bytes, goal_bytes}
 use Rattle.rows.specs.Sound.{Sound}

@@ -1,4 +1,5 @@
 pub mod Calls
+pub mod CsvLines
 pub mod Histories
 pub mod Identifiers
 pub mod Kinds

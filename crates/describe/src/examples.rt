@@ -1,4 +1,6 @@
-// Examples: which plan files are read, which rule the others break, what plainly is no plan, which lines are calls, what runs come to, and how batches, shares, regions, entries and histories are shown.
+// Examples: which plan files are read, which rule the others break, what plainly is no plan, which
+// lines are calls, what runs come to, and how batches, shares, regions, entries and histories are
+// shown.
 mod batches;
 mod calls;
 mod entries;

@@ -1,4 +1,5 @@
-// Plans, batches, offers, regions, calls, entries, histories and refusals in words.
+// Plans, batches, offers, regions, calls, entries, histories and refusals in words, batches as
+// comma-separated values, and what is said of files that are no plans.
 #![tactic(auto)]
 
 pub mod batches;

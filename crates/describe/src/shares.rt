@@ -1,6 +1,6 @@
 // Shares of runs in tenths of a percent, and how far off such a share may be.
-ghost use Rattle.std.specs.Prelude.{◌≡◌, ◌<◌, ◌≤◌, ◌↔◌, min, IsTrue};
-ghost use Rattle.describe.specs.Shares.{AreEnough, IsLeastHalfWidth, IsNearestTenth};
+ghost use Rattle.std.specs.Prelude.{◌≡◌, ◌<◌, ◌↔◌, IsTrue};
+ghost use Rattle.describe.specs.Shares.{AreEnough, IsLeastHalfWidth, IsShareOf};
 
 use std::fmt;
 
@@ -9,6 +9,11 @@ use std::fmt;
 pub(crate) struct Tenths(pub u32);
 
 impl fmt::Display for Tenths {
+    ghost use Rattle.std.specs.Prelude.{Some};
+    ghost use Rattle.describe.specs.Numbers.{with_tenths};
+
+    ghost output = { λ t. Some (with_tenths t.0) };
+
     fn fmt<W: fmt::Write>(&self, f: &mut fmt::Formatter<W>) -> fmt::Result {
         let whole = self.0 / 10;
         let rest = self.0 % 10;
@@ -26,8 +31,7 @@ impl Share {
     // The share of the runs that reached, to the nearest tenth of a percent, halves up. It is 0
     // where there are no runs, and 100 % where more are said to have reached than ran.
     pub fn of(reached: u32, runs: u32) -> Share
-        ensures nearest { 1 ≤ runs → IsNearestTenth (min reached runs) runs result.tenths }
-        ensures of_no_runs { runs ≡ 0 → result.tenths ≡ 0 }
+        ensures { IsShareOf reached runs result.tenths }
     {
         if runs == 0 {
             return Share { tenths: 0 };
@@ -41,7 +45,9 @@ impl Share {
     }
 
     // The share as a number of percent.
-    pub(crate) fn in_percent(self) -> Tenths {
+    pub(crate) fn in_percent(self) -> Tenths
+        ensures { result.0 ≡ self.tenths }
+    {
         Tenths(self.tenths)
     }
 }
@@ -55,13 +61,14 @@ impl fmt::Display for Share {
     }
 }
 
-// What the runs of one scheduler, times the tenths of a percent of a half-width squared, must come
-// to. By Hoeffding's bound the share of N runs is off by h or more with a chance of at most
-// 2 exp(-2 N h h). That is at most 5 % where N h h is at least ln(40) / 2, which is 1.8444397; with
-// h in tenths of a percent it is a million times as much.
+// What the runs of one scheduler times the square of a half-width, in tenths of a percent, must
+// come to at least. By Hoeffding's bound the share of N runs is off by h or more with a chance of
+// at most 2 exp(-2 N h h). That is at most 5 % where N h h is at least ln(40) / 2, which is
+// 1.8444397..; with h in tenths of a percent that is a million times as much, here rounded up to
+// a whole number.
 const ENOUGH: u64 = 1_844_440;
 
-// So many runs say a share to within these tenths of a percent, 95 times out of 100.
+// Whether so many runs are enough for a half-width of these tenths of a percent.
 fn are_enough(runs: u32, tenths: u32) -> bool
     requires { tenths < 1000 }
     ensures { IsTrue result ↔ AreEnough runs tenths }
@@ -70,8 +77,8 @@ fn are_enough(runs: u32, tenths: u32) -> bool
     ENOUGH <= u64::from(runs) * tenths * tenths
 }
 
-// How far off the share of one scheduler's runs may be, either way, in tenths of a percent: 95 times
-// out of 100 it is not off by as much.
+// How far off the share of one scheduler's runs may be, either way, in tenths of a percent: at
+// least 95 times out of 100 it is not off by as much.
 #[derive(Clone, Copy, Debug, PartialEq, Eq)]
 pub struct HalfWidth {
     tenths: u32,
@@ -91,7 +98,9 @@ impl HalfWidth {
     }
 
     // The half-width as a number of percent.
-    pub(crate) fn in_percent(self) -> Tenths {
+    pub(crate) fn in_percent(self) -> Tenths
+        ensures { result.0 ≡ self.tenths }
+    {
         Tenths(self.tenths)
     }
 }

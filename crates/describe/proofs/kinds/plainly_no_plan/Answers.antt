@@ -1,4 +1,4 @@
-use Rattle.std.proofs.Common.{◌≡◌, ◌≤◌, true, false, length, ap, sym, ◌∙◌, subst, ℕ, List, arith, rules}
+use Rattle.std.proofs.Common.{◌≡◌, true, length, ap, sym, ◌∙◌, arith, rules}
 use Rattle.std.proofs.lemmas.Bool.{false≢true}
 use Rattle.describe.specs.Kinds.{is_plain_text}
 use Rattle.describe.proofs.PlanFiles.{plan_has_28_bytes, plan_is_no_text}

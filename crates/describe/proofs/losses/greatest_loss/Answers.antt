@@ -1,4 +1,4 @@
-use Rattle.std.proofs.Common.{[], map, arith, rules}
+use Rattle.std.proofs.Common.{[], map}
 use Rattle.describe.specs.Losses.{loss_beside, loss_of_row}
 use Rattle.describe.proofs.GreatestLoss.{greatest_with_one_row}
 use Rattle.describe.proofs.losses.greatest_loss.Goals as goal
