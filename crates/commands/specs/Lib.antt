@@ -1,3 +1,4 @@
+pub mod Besides
 pub mod Files
 pub mod Options
 pub mod Replays

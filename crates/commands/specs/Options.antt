@@ -8,7 +8,7 @@ use Rattle.clap.specs.declared.parser.matches.ArgMatches.{ArgMatches}
 use Rattle.batch.specs.declared.Limits.{Limits}
 use Rattle.schedulers.specs.declared.chooser.Chooser.{Chooser}
 use Rattle.schedulers.specs.declared.chooser.Chooser.TheVariants.{Earliest}
-use Rattle.describe.specs.Identifiers.{Lists}
+use Rattle.describe.specs.Identifiers.{AllDiffer, Lists}
 use Rattle.describe.specs.Names.{Names}
 use Rattle.describe.specs.Words.{Writes}
 use Rattle.commands.specs.declared.command.Command.{Command}
@@ -46,10 +46,10 @@ abbrev pub SchedulerFor : Option (List ℕ) → Chooser → Type 0
 SchedulerFor None s = s ≡ Earliest
 SchedulerFor (Some word) s = Names word s
 
--- identifiers for a word: those that it lists, or the first ten where there is none
+-- identifiers for a word: those that it lists, none twice, or the first ten where there is none
 abbrev pub ListFor : Option (List ℕ) → List ℕ → Type 0
 ListFor None ids = ids ≡ range_with_len 0 10
-ListFor (Some word) ids = Lists word ids
+ListFor (Some word) ids = Lists word ids × AllDiffer ids
 
 -- a rule for a word: the one that it names; none where there is no word
 abbrev pub RuleFor : Option (List ℕ) → Option Rule → Type 0

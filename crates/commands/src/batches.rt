@@ -1,6 +1,9 @@
 // Runs many sampled schedulers and tells how often each reached the goal.
 ghost use Rattle.std.specs.Prelude.{◌≡◌, length, Some, None, IfOk, MatchResult};
-ghost use Rattle.batch.specs.Batches.{all_made, refusal_of};
+ghost use Rattle.batch.specs.Batches.{all_made, refusal_of, runs_made};
+ghost use Rattle.describe.specs.Losses.{chooser_of};
+ghost use Rattle.schedulers.specs.Choosers.{meaning_of};
+ghost use Rattle.commands.specs.Besides.{beside_in};
 ghost use Rattle.draws.specs.Either.{book_of, coming_of};
 ghost use Rattle.offers.specs.Checked.{checked};
 ghost use Rattle.runs.specs.Tables.{plan_in};
@@ -12,14 +15,22 @@ use crate::command::Command;
 use crate::failure::Failure;
 use crate::options::{Options, file_of};
 use crate::sources::Draws;
+use anyhow::anyhow;
+use batch::beside::runs_by;
+use batch::tally::Tally;
 use batch::watch::Watch;
 use batch::{BatchRow, Limits, batch};
 use clap::ArgMatches;
 use describe::batches::ShownBatch;
+use describe::csv_rows::csv_text;
+use describe::losses::{Beside, Named};
+use describe::tables::BatchTable;
 use draws::either::Source;
 use logs::Log;
 use plan::handed::Handed;
 use rows::refusal::Refusal;
+use schedulers::chooser::Chooser;
+use std::fs;
 use std::num::NonZeroUsize;
 
 // Tells on standard error how many rows are done, each time that so many more are, if at all.
@@ -107,23 +118,120 @@ fn rows_of(
     Ok(rows)
 }
 
+// The scheduler of a name.
+fn chooser(name: Named) -> Chooser
+    ensures { result ≡ chooser_of name }
+{
+    match name {
+        Named::Earliest => Chooser::Earliest,
+        Named::Latest => Chooser::Latest,
+    }
+}
+
+// What a scheduler that is not sampled comes to in the runs that each identifier has, with an
+// allowance of its own.
+fn beside_of(
+    file: &PlanFile,
+    draws: &Draws<Vec<u32>>,
+    name: Named,
+    limits: Limits,
+) -> Result<Beside, Refusal>
+    ensures { let book = book_asked draws.now in
+        let made = runs_made (plan_in (rows_read file.now)) book (book 0) limits in
+        IfOk result (λ b. b ≡ beside_in name (made (meaning_of (chooser_of name))).tally) }
+{
+    let Tally {
+        reached,
+        failed,
+        stuck,
+        unfinished,
+    } = runs_by(
+        file.handed(),
+        &mut draws.source_at(0),
+        &chooser(name),
+        limits,
+    )?;
+    Ok(Beside {
+        name,
+        reached,
+        failed,
+        stuck,
+        unfinished,
+    })
+}
+
+// How a batch is printed: its counts alone, or with shares; beside other schedulers; to a file too.
+#[derive(Clone, Copy)]
+struct Shown<'a> {
+    is_plain: bool,
+    has_beside: bool,
+    csv: Option<&'a str>,
+}
+
+impl<'a> Shown<'a> {
+    fn of(given: &ArgMatches<'a>) -> Shown<'a> {
+        Shown {
+            is_plain: given.get_flag("plain"),
+            has_beside: given.get_flag("earliest-latest"),
+            csv: given.get_str("csv"),
+        }
+    }
+}
+
+// Writes rows to a file as comma-separated values.
+fn write_csv(rt: &HostRuntime, path: &str, rows: &[BatchRow], runs: u32) -> anyhow::Result<()> {
+    let text = csv_text(rt.alloc(), rows, runs).map_err(|e| anyhow!("{e}"))?;
+    fs::write(rt, path, &text).map_err(|e| anyhow!("cannot write {path}: {e}"))?;
+    Ok(())
+}
+
+// Prints the rows of a batch as a table, with what other schedulers come to if that is asked for.
+fn print_table(
+    rt: &HostRuntime,
+    file: &PlanFile,
+    draws: &Draws<Vec<u32>>,
+    limits: Limits,
+    rows: &[BatchRow],
+    has_beside: bool,
+) -> anyhow::Result<()> {
+    let runs = limits.runs;
+    if !has_beside {
+        print!(rt; "{}", BatchTable { rows, beside: &[], runs })?;
+        return Ok(());
+    }
+    let beside = [
+        beside_of(file, draws, Named::Earliest, limits)?,
+        beside_of(file, draws, Named::Latest, limits)?,
+    ];
+    print!(rt; "{}", BatchTable { rows, beside: &beside, runs })?;
+    Ok(())
+}
+
 // Runs a batch and prints its rows, and the best and the worst of them.
-fn print_batch(rt: &HostRuntime, path: &str, options: Options) -> anyhow::Result<()> {
+fn print_batch(
+    rt: &HostRuntime,
+    path: &str,
+    options: Options,
+    shown: Shown<'_>,
+) -> anyhow::Result<()> {
     let file = PlanFile::open(rt, path)?;
     let draws = options.draws.load(rt)?;
     let limits = options.limits;
+    let runs = limits.runs;
     let rows = rows_of(rt, &file, &draws, &options.identifiers, limits)?;
-    let shown = ShownBatch {
-        rows: &rows,
-        runs: limits.runs,
-    };
-    print!(rt; "{}", shown)?;
-    Ok(())
+    if let Some(csv) = shown.csv {
+        write_csv(rt, csv, &rows, runs)?;
+    }
+    if shown.is_plain {
+        print!(rt; "{}", ShownBatch { rows: &rows, runs })?;
+        return Ok(());
+    }
+    print_table(rt, &file, &draws, limits, &rows, shown.has_beside)
 }
 
 // Runs a batch.
 pub fn run_batch(rt: &HostRuntime, given: &ArgMatches<'_>) -> Result<(), Failure> {
     let options = Options::of(rt.alloc(), Command::Batch, given).map_err(Failure::Words)?;
-    print_batch(rt, file_of(given, "PLAN"), options)?;
+    print_batch(rt, file_of(given, "PLAN"), options, Shown::of(given))?;
     Ok(())
 }

@@ -8,6 +8,7 @@ ghost use Rattle.rows.specs.Verdicts.{faultless};
 
 use anyhow::anyhow;
 use describe::faults::Refused;
+use describe::kinds::plainly_no_plan;
 use plan::handed::{Handed, Tables};
 use plan::records::Records;
 use reader::owned::OwnedTables;
@@ -27,25 +28,21 @@ impl PlanFile {
     ghost use Rattle.commands.specs.Files.{FileOf, ReadAs, rows_read};
 
     // Reads a plan file: what it answers is the plan of some bytes, and no contract can say that they
-    // are those of the path. The rule that a refused one breaks is printed.
+    // are those of the path. The rule that a refused one breaks is printed, and what it plainly is.
     pub fn open(rt: &HostRuntime, path: &str) -> anyhow::Result<PlanFile>
         ensures { IfOk result (λ file. (bytes : List ℕ) × FileOf bytes (rows_read file)) }
     {
-        match PlanFile::load(rt, path)? {
+        let bytes = fs::read(rt, path).map_err(|e| anyhow!("cannot read {path}: {e}"))?;
+        match PlanFile::of_bytes(rt.alloc(), &bytes)? {
             Ok(file) => Ok(file),
             Err(fault) => {
                 println!(rt; "{}", Refused(fault))?;
-                Err(anyhow!("the plan is refused"))
+                Err(match plainly_no_plan(&bytes) {
+                    Some(kind) => anyhow!("{path} is no plan file: {kind}"),
+                    None => anyhow!("the plan is refused"),
+                })
             }
         }
-    }
-
-    // Reads a plan file, or answers the rule that it breaks.
-    pub fn load(rt: &HostRuntime, path: &str) -> anyhow::Result<Result<PlanFile, Fault>>
-        ensures { IfOk result (λ read. (bytes : List ℕ) × ReadAs bytes read) }
-    {
-        let bytes = fs::read(rt, path).map_err(|e| anyhow!("cannot read {path}: {e}"))?;
-        Ok(PlanFile::of_bytes(rt.alloc(), &bytes)?)
     }
 
     // The plan whose file these bytes are, or the rule that they break. The fault stands inside: it

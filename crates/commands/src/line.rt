@@ -60,13 +60,15 @@ fn with_draws<'a>(heap: Global, command: Command<'a>) -> Result<Command<'a>, All
         "how they are computed: well mixed, or by the congruential rule [default: mixed]",
     )
     .value_parser(SOURCES.as_slice());
-    let tape = valued(heap, "tape", "FILE", "take the draws from a file of numbers below 2^32");
+    let tape = valued(heap, "tape", "FILE", "take the draws from a file of numbers below 2^32")
+        .conflicts_with_all(["seed", "source"].as_slice())?;
     let row_length = valued(
         heap,
         "row-length",
         "N",
         "how many numbers a row of the tape has, 1 to 10000 [default: 10000]",
-    );
+    )
+    .requires_arg("tape")?;
     command.arg(seed)?.arg(source)?.arg(tape)?.arg(row_length)
 }
 
@@ -95,11 +97,14 @@ fn batch<'a>(heap: Global) -> Result<Command<'a>, AllocError> {
             "N",
             "the most steps of all runs together, 1 to 1000000000 [default: 1000000000]",
         ))?
-        .arg(flag(
-            heap,
-            "earliest-latest",
-            "show beside them what the earliest and the latest scheduler come to in the same runs",
-        ))?
+        .arg(
+            flag(
+                heap,
+                "earliest-latest",
+                "show beside them what the earliest and the latest scheduler come to in these runs",
+            )
+            .conflicts_with("plain")?,
+        )?
         .arg(valued(heap, "csv", "FILE", "write the rows to a file as comma-separated values too"))?
         .arg(flag(heap, "plain", "print the counts alone, for scripts"))?;
     with_draws(heap, command)

@@ -2,6 +2,7 @@
 ghost use Rattle.std.specs.Prelude.{◌≡◌, IfOk, codes};
 ghost use Rattle.std.specs.Option.{unwrap_or};
 ghost use Rattle.std.specs.Result.{result_ok};
+ghost use Rattle.describe.specs.Identifiers.{AllDiffer, Lists};
 ghost use Rattle.commands.specs.Options.{DrawsFor, GoesBy, LimitsFor, ListFor, NumberFor};
 ghost use Rattle.commands.specs.Options.{NumberOr, RuleFor, SchedulerFor, draws_asked, said};
 
@@ -11,7 +12,7 @@ use anyhow::{Context, anyhow};
 use batch::{LARGEST, Limits, MOST_IDENTIFIERS};
 use clap::ArgMatches;
 use describe::calls::named_scheduler;
-use describe::identifiers::identifiers;
+use describe::identifiers::{identifiers, listed_twice};
 use describe::numbers::number;
 use draws::tape::LONGEST_ROW;
 use schedulers::chooser::Chooser;
@@ -77,15 +78,28 @@ fn scheduler_of(given: &ArgMatches<'_>) -> anyhow::Result<Chooser>
     }
 }
 
+// The identifiers that a word lists, none of them twice.
+fn listed(heap: Global, word: &str) -> anyhow::Result<Vec<u32>>
+    ensures { IfOk result (λ ids. Lists word.now ids.items × AllDiffer ids.items) }
+{
+    let Some(identifiers) = identifiers(heap, word)? else {
+        return Err(anyhow!(
+            "--identifiers takes FIRST..LAST or a list as 3,5,8, at most {MOST_IDENTIFIERS} of them, not {word}"
+        ));
+    };
+    match listed_twice(&identifiers) {
+        Some(twice) => Err(anyhow!("--identifiers lists {twice} twice: {word}")),
+        None => Ok(identifiers),
+    }
+}
+
 // The identifiers that are listed, or the first ten.
 fn identifiers_of(heap: Global, given: &ArgMatches<'_>) -> anyhow::Result<Vec<u32>>
     ensures { IfOk result (λ ids. ListFor (said given.now (codes "identifiers")) ids.items) }
 {
     match given.get_str("identifiers") {
         None => Ok((0..10).collect(heap)?),
-        Some(word) => identifiers(heap, word)?.context(format_args!(
-            "--identifiers takes FIRST..LAST or a list as 3,5,8, at most {MOST_IDENTIFIERS} of them, not {word}"
-        )),
+        Some(word) => listed(heap, word),
     }
 }
 

@@ -11,7 +11,7 @@ use crate::files::PlanFile;
 use crate::options::file_of;
 use anyhow::{Context, anyhow};
 use clap::ArgMatches;
-use describe::faults::ShownRefusal;
+use describe::faults::{RefusedReset, ShownRefusal};
 use describe::numbers::number;
 use describe::regions::{Intervals, ShownRegion};
 use region::Region;
@@ -126,6 +126,15 @@ fn show(rt: &HostRuntime, region: &Region) -> anyhow::Result<()> {
     Ok(())
 }
 
+// Prints why a move is refused.
+fn print_refused(rt: &HostRuntime, m: Move, refusal: Refusal) -> anyhow::Result<()> {
+    match m {
+        Move::Wait(_) => println!(rt; "{}", ShownRefusal(refusal))?,
+        Move::Reset(_) => println!(rt; "{}", RefusedReset(refusal))?,
+    }
+    Ok(())
+}
+
 // Goes through the moves. A refused one is told, and the walk goes on from where it was.
 fn print_walk(rt: &HostRuntime, path: &str, moves: &[Move]) -> anyhow::Result<()> {
     let file = PlanFile::open(rt, path)?;
@@ -135,7 +144,7 @@ fn print_walk(rt: &HostRuntime, path: &str, moves: &[Move]) -> anyhow::Result<()
     for m in moves {
         match made(&mut region, *m, ceilings) {
             Ok(()) => show(rt, &region)?,
-            Err(refusal) => println!(rt; "{}", ShownRefusal(refusal))?,
+            Err(refusal) => print_refused(rt, *m, refusal)?,
         }
     }
     Ok(())
