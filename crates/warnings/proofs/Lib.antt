@@ -1,0 +1,11 @@
+pub mod Bounding
+pub mod Closing
+pub mod Plain
+pub mod Counted
+pub mod Holding
+pub mod Resetting
+pub mod Arriving
+pub mod Comfort
+pub mod DeadEnds
+pub mod Listed
+pub mod Promised

@@ -1,0 +1,10 @@
+use Rattle.std.proofs.Common.{◌≡◌, ℕ, ◌<◌, length, get_or}
+use Rattle.offers.specs.Known.{plan_of}
+use Rattle.warnings.specs.Arrivals.{most_on_leaving}
+use Rattle.warnings.proofs.leaving.leaving.Given as goal
+
+abbrev pub invariant-loop-timer : goal.invariant-loop-timer
+invariant-loop-timer l = record {
+  long : length l.bounds.most ≡ 16;
+  filled : (x : ℕ) → x < l.timer → get_or l.bounds.most x 0 ≡ most_on_leaving (plan_of l.plan) l.stage l.arrival x;
+}

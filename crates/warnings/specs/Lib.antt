@@ -1,0 +1,4 @@
+pub mod Limits
+pub mod Arrivals
+pub mod Warned
+pub mod Promised

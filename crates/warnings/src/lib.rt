@@ -1,0 +1,49 @@
+// Artefacts of a plan: stages whose hold interval a timer's ceiling may end, and stages without a way out.
+#![tactic(auto)]
+
+ghost use Rattle.std.specs.Prelude.{◌≡◌, List, Option, IfOk};
+ghost use Rattle.offers.specs.Known.{plan_of};
+ghost use Rattle.warnings.specs.Arrivals.{Closed};
+ghost use Rattle.warnings.specs.Promised.{AStageWarnedAsWithoutAWayOutOffersNothing, AStageWithoutChangesIsWarned, WhereNothingIsWarnedTheHoldEndsBeforeTheCeiling};
+ghost use Rattle.warnings.specs.Warned.{warned};
+ghost use Rattle.warnings.specs.declared.bounds.Bounds.{Bounds};
+
+pub mod bounds;
+mod closed;
+mod hold;
+mod leaving;
+mod limit;
+mod search;
+mod stage;
+mod table;
+mod warned;
+mod ways;
+mod widest;
+
+use crate::table::arrivals;
+use crate::warned::warned;
+use offers::sound_plan::Plan;
+use std::alloc::{AllocError, Global};
+
+// What a planner is warned of.
+#[derive(Clone, Copy, Debug, PartialEq, Eq)]
+pub enum Warning {
+    CeilingMayEndHold { stage: usize, timer: usize },
+    NoWayOut { stage: usize },
+}
+
+// The warnings of a plan in order of stages: of each stage first the timers whose ceiling may end its hold interval, in order, and
+// then whether no change can ever be possible in it.
+pub fn warnings(heap: Global, plan: Plan<'_>) -> Result<Vec<Warning>, AllocError>
+    ensures by_arrivals { IfOk result (λ found. (table : List (Option Bounds))
+        × Closed (plan_of plan.entry) table × (found.items ≡ warned (plan_of plan.entry) table)) }
+    ensures where_nothing_is_warned_the_hold_ends_before_the_ceiling { IfOk result (λ found.
+        WhereNothingIsWarnedTheHoldEndsBeforeTheCeiling (plan_of plan.entry) found.items) }
+    ensures a_stage_warned_as_without_a_way_out_offers_nothing { IfOk result (λ found.
+        AStageWarnedAsWithoutAWayOutOffersNothing (plan_of plan.entry) found.items) }
+    ensures a_stage_without_changes_is_warned { IfOk result (λ found.
+        AStageWithoutChangesIsWarned (plan_of plan.entry) found.items) }
+{
+    let table = arrivals(heap, &plan)?;
+    warned(heap, &plan, &table)
+}
