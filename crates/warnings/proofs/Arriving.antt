@@ -1,6 +1,5 @@
 -- An open run is in a stage with arrivals, and came there within their bounds.
 use Rattle.std.proofs.Common.{◌≡◌, ℕ, suc, ◌+◌, ◌-◌, ◌*◌, ◌^◌, ◌<◌, ◌≤◌, Bool, true, false, cond, ◌&&◌, ◌||◌, eqb, ◌⊎◌, List, [], ◌∷◌, length, get_or, Option, Some, None, sym, refl, ap, ◌∙◌, subst, inl, inr, arith}
-use Rattle.std.specs.List.{AllByRecursion}
 use Rattle.std.proofs.ByRecursion.{All-get_or}
 use Rattle.std.proofs.lemmas.Bool.{cases_Bool, ne_eqb}
 use Rattle.std.proofs.lemmas.List.{get_or-replicate}
@@ -175,16 +174,16 @@ make_followable plan table run Offers s k h a = a
 make_followable plan table run Stands s k h a = a
 
 -- what is kept by every call: the bounds of runs, and that the run can be followed
-pub record Kept (plan : Plan) (table : List (Option Bounds)) (run : Run) : Type 0 where
+pub record KeepsToTable (plan : Plan) (table : List (Option Bounds)) (run : Run) : Type 0 where
   pub in_bounds : Inv plan run
   pub followable : Followable plan table run
 
-pub after_kept : (plan : Plan) (table : List (Option Bounds)) (run : Run) (calls : List Call) → Sound plan → Closed plan table → Kept plan table run → Kept plan table (after plan run calls)
+pub after_kept : (plan : Plan) (table : List (Option Bounds)) (run : Run) (calls : List Call) → Sound plan → Closed plan table → KeepsToTable plan table run → KeepsToTable plan table (after plan run calls)
 after_kept plan table run [] s k a = a
 after_kept plan table run (call ∷ calls) s k a =
     after_kept plan table (make plan run call).1 calls s k (record { in_bounds = make_keeps_inv plan run call s a.in_bounds; followable = make_followable plan table run call s k a.in_bounds a.followable })
 
 -- so is every run of the plan
-pub every_run_kept : (plan : Plan) (table : List (Option Bounds)) (draws : Draws) (calls : List Call) → Sound plan → Closed plan table → DrawsFit draws → Kept plan table (after plan (opening plan draws) calls)
+pub every_run_kept : (plan : Plan) (table : List (Option Bounds)) (draws : Draws) (calls : List Call) → Sound plan → Closed plan table → DrawsFit draws → KeepsToTable plan table (after plan (opening plan draws) calls)
 every_run_kept plan table draws calls s k d =
     after_kept plan table (opening plan draws) calls s k (record { in_bounds = opening_inv plan draws s; followable = opening_followable plan table draws k d })

@@ -1,7 +1,6 @@
 -- Bounds that are filled in timer by timer, and the table that says the least.
-use Rattle.std.proofs.Common.{◌≡◌, ℕ, ◌+◌, ◌<◌, ◌≤◌, min, Bool, true, false, cond, ◌⊎◌, List, [], ◌∷◌, set, length, get_or, fold, Option, Some, None, sym, refl, ap, ◌∙◌, inl, inr, arith, get_or-set_same, get_or-set_other}
+use Rattle.std.proofs.Common.{◌≡◌, ℕ, ◌+◌, ◌<◌, ◌≤◌, true, false, cond, ◌⊎◌, List, [], ◌∷◌, set, length, get_or, fold, Option, Some, None, sym, ◌∙◌, inl, inr, arith, get_or-set_same, get_or-set_other}
 use borrow.Author.Count.{below_more}
-use Rattle.std.specs.List.{AllByRecursion}
 use Rattle.std.proofs.ByRecursion.{All-weaker}
 use Rattle.std.proofs.lemmas.Bool.{cases_Bool, cond-false, cond-true}
 use Rattle.theory.specs.Regions.{Comparison}

@@ -1,5 +1,5 @@
 -- Where a ceiling is not warned of, the hold ends before it.
-use Rattle.std.proofs.Common.{◌≡◌, ℕ, ◌<◌, ◌≤◌, true, false, not, List, length, get_or, Option, Some, sym, refl, ap, ◌∙◌, subst, arith}
+use Rattle.std.proofs.Common.{◌≡◌, ℕ, ◌<◌, false, List, length, get_or, Option, Some, sym, ap, ◌∙◌, arith}
 use Rattle.std.proofs.lemmas.Bool.{not-false}
 use Rattle.runs.specs.Plans.{Plan, Sound, stage_of}
 use Rattle.runs.specs.Runs.{Run, upto}
@@ -18,14 +18,14 @@ abbrev pub NoCeilingWarned : Plan → List (Option Bounds) → ℕ → ℕ → T
 NoCeilingWarned plan table i x =
     (b : Bounds) → arrivals_in table i ≡ Some b → ceiling_may_end_hold plan i b x ≡ false
 
-run_kept_under : (plan : Plan) (table : List (Option Bounds)) (x : ℕ) (run : Run) → x < length plan.ceilings → NoCeilingWarned plan table run.stage x → Arrived plan table run → HoldKeepsUnder plan x run
-run_kept_under plan table x run l none a d through =
-    let hold = (stage_of plan run.stage).hold in
+run_kept_under : (plan : Plan) (table : List (Option Bounds)) (i x : ℕ) (run : Run) → run.stage ≡ i → x < length plan.ceilings → NoCeilingWarned plan table i x → Arrived plan table run → HoldKeepsUnder plan i x run
+run_kept_under plan table i x run at l none a d through =
+    let hold = (stage_of plan i).hold in
     let here = inside_within d (cuts run.region hold (upto d)) (through d (omega arith)) in
-    let ended = not-false (ended_by x (get_or a.bounds.most x 0) (get_or plan.ceilings x 0) hold) (none a.bounds a.in_table) in
+    let ended = not-false (ended_by x (get_or a.bounds.most x 0) (get_or plan.ceilings x 0) hold) (none a.bounds (ap (arrivals_in table) (sym at) ∙ a.in_table)) in
     ended_under run.region d x (get_or a.bounds.most x 0) (get_or plan.ceilings x 0) hold ended ((within_cuts run.region hold d (upto d)).0 here).1 (a.within x l)
 
 pub the_hold_ends : (plan : Plan) (table : List (Option Bounds)) (i x : ℕ) → Sound plan → Closed plan table → x < length plan.ceilings → NoCeilingWarned plan table i x → TheHoldEndsBeforeTheCeiling plan i x
 the_hold_ends plan table i x s k l none draws calls fit going at =
     let kept = every_run_kept plan table draws calls s k fit in
-    run_kept_under plan table x _ l (subst (λ j. NoCeilingWarned plan table j x) (sym at) none) (kept.followable.arrived_if_open going)
+    run_kept_under plan table i x _ at l none (kept.followable.arrived_if_open going)

@@ -1,20 +1,20 @@
 -- In a stage that is warned of as without a way out, no change is ever possible.
-use Rattle.std.proofs.Common.{◌≡◌, ℕ, suc, ◌+◌, ◌*◌, ◌<◌, ◌≤◌, Bool, true, false, not, ◌&&◌, ltb, leb, ◌⊎◌, List, [], ◌∷◌, length, get_or, Option, Some, sym, refl, ap, ◌∙◌, subst, inl, inr, arith}
-use Rattle.std.specs.List.{AllByRecursion, list_all, list_any}
+use Rattle.std.proofs.Common.{◌≡◌, ℕ, suc, ◌+◌, ◌*◌, ◌<◌, ◌≤◌, true, false, not, ◌⊎◌, List, [], ◌∷◌, length, Option, sym, refl, ◌∙◌, subst, inl, inr, arith}
+use Rattle.std.specs.List.{AllByRecursion, list_all}
 use Rattle.std.proofs.lemmas.Bool.{and_parts, cases_Bool, leb-true, ltb-true, not-true, or_cases}
 use Rattle.theory.specs.Records.{Record, count, timer_no}
 use Rattle.theory.specs.Regions.{Relation, AtLeast, Above, AtMost, Below, Comparison, NamesBelow, timer_against, lead_against}
 use Rattle.runs.specs.Plans.{Change, Plan, Sound, SoundPlanChange, stage_of}
-use Rattle.runs.specs.Runs.{Run, any_in, cuts, guard_span, offers_from, offers_of, top, upto}
+use Rattle.runs.specs.Runs.{Run, any_in, guard_span, offers_from, offers_of, top, upto}
 use Rattle.runs.proofs.Allowed.{any_within, within_cuts}
 use Rattle.runs.proofs.Offered.{offers_from_nil, offers_from_none}
 use Rattle.runs.proofs.Plans.{sound_stage}
 use Rattle.runs.proofs.Reach.{Allows}
-use Rattle.warnings.specs.Arrivals.{Closed, arrivals_in, most_after, most_on_leaving, most_shown}
+use Rattle.warnings.specs.Arrivals.{Closed, most_after, most_shown}
 use Rattle.warnings.specs.Promised.{DeadEnd, NothingIsEverPossible}
-use Rattle.warnings.specs.Warned.{first_timer, has_no_way_out, is_never_allowed, is_out_of_reach, is_unmarked, stays_below, too_low}
+use Rattle.warnings.specs.Warned.{has_no_way_out, is_never_allowed, is_out_of_reach, is_unmarked, stays_below}
 use Rattle.warnings.specs.declared.bounds.Bounds.{Bounds}
-use Rattle.warnings.proofs.Arriving.{Arrived, Kept, every_run_kept}
+use Rattle.warnings.proofs.Arriving.{Arrived, KeepsToTable, every_run_kept}
 use Rattle.warnings.proofs.Counted.{times_larger, times_less}
 use Rattle.warnings.proofs.Holding.{shown_on_leaving}
 
@@ -76,11 +76,11 @@ none_offered plan r last c most (x ∷ xs) z h s t =
     offers_from_none r last c x xs (no_wait r (length plan.ceilings) last most x.guard z h s.0.guard_named both.0) ∙ none_offered plan r last (suc c) most xs z h s.1 both.1
 
 -- what is shown in the stage of an open run, by the table
-shown_by_table : (plan : Plan) (table : List (Option Bounds)) (run : Run) → Kept plan table run → Arrived plan table run → ShownUpto run.region (length plan.ceilings) (top plan run.stage run.region) (most_shown plan table run.stage)
+shown_by_table : (plan : Plan) (table : List (Option Bounds)) (run : Run) → KeepsToTable plan table run → Arrived plan table run → ShownUpto run.region (length plan.ceilings) (top plan run.stage run.region) (most_shown plan table run.stage)
 shown_by_table plan table run k a x d l h =
     subst (λ o. count run.region (timer_no run.region x) + d ≤ 2 * run.region.classes * most_after plan run.stage o x) (sym a.in_table) (shown_on_leaving plan run.stage run.region d x a.bounds l h (a.within x l) (k.in_bounds.under x l))
 
-run_offers_nothing : (plan : Plan) (table : List (Option Bounds)) (run : Run) → Sound plan → Kept plan table run → Arrived plan table run → has_no_way_out plan table run.stage ≡ true → offers_of plan run ≡ []
+run_offers_nothing : (plan : Plan) (table : List (Option Bounds)) (run : Run) → Sound plan → KeepsToTable plan table run → Arrived plan table run → has_no_way_out plan table run.stage ≡ true → offers_of plan run ≡ []
 run_offers_nothing plan table run s k a t =
     let both = and_parts (is_unmarked plan run.stage) (list_all (λ (x : Change). is_never_allowed (most_shown plan table run.stage) x.guard) (stage_of plan run.stage).changes) t in
     none_offered plan run.region (top plan run.stage run.region) (stage_of plan run.stage).first (most_shown plan table run.stage) (stage_of plan run.stage).changes k.in_bounds.valid.some_class (shown_by_table plan table run k a) (sound_stage plan s run.stage).changes_sound both.1

@@ -1,7 +1,7 @@
 -- What a hold leaves of what a timer can show.
-use Rattle.std.proofs.Common.{◌≡◌, ℕ, zero, suc, ◌+◌, ◌*◌, ◌<◌, ◌≤◌, min, max, Bool, true, false, cond, eqb, leb, ◌⊎◌, List, [], ◌∷◌, length, get_or, fold, Option, Some, None, sym, refl, ap, ◌∙◌, subst, inl, inr, arith}
-use Rattle.std.specs.List.{AllByRecursion, list_any}
-use Rattle.std.proofs.lemmas.Bool.{cases_eq, cases_Bool, eq-eqb, ne_eqb, leb-true, or_cases}
+use Rattle.std.proofs.Common.{◌≡◌, ℕ, zero, suc, ◌+◌, ◌*◌, ◌<◌, ◌≤◌, max, Bool, true, false, cond, eqb, ◌⊎◌, List, [], ◌∷◌, length, get_or, fold, Option, Some, None, sym, refl, subst, inl, inr, arith}
+use Rattle.std.specs.List.{AllByRecursion}
+use Rattle.std.proofs.lemmas.Bool.{cases_eq, eq-eqb, ne_eqb, leb-true, or_cases}
 use Rattle.theory.specs.Records.{Record, count, timer_no}
 use Rattle.theory.specs.Regions.{AtLeast, Above, AtMost, Below, Comparison, timer_against, lead_against}
 use Rattle.runs.specs.Plans.{Plan, stage_of}
@@ -15,14 +15,14 @@ use Rattle.warnings.specs.declared.limit.Limit.{Limit}
 use Rattle.warnings.proofs.Counted.{times_larger, times_min, times_sum}
 
 -- a limit is kept at the wait d: its timer shows no more then
-abbrev pub Kept : Record → ℕ → Limit → Type 0
-Kept r d l = count r (timer_no r l.timer) + d ≤ 2 * r.classes * l.seconds
+abbrev pub LimitKept : Record → ℕ → Limit → Type 0
+LimitKept r d l = count r (timer_no r l.timer) + d ≤ 2 * r.classes * l.seconds
 
-kept_along : (r : Record) (d : ℕ) (a l : Limit) → Some a ≡ Some l → Kept r d a → Kept r d l
-kept_along r d a l e h = let f : a ≡ l = cc in subst (Kept r d) f h
+kept_along : (r : Record) (d : ℕ) (a l : Limit) → Some a ≡ Some l → LimitKept r d a → LimitKept r d l
+kept_along r d a l e h = let f : a ≡ l = cc in subst (LimitKept r d) f h
 
 -- a wait that a comparison allows keeps its limit
-pub limit_kept : (r : Record) (d : ℕ) (c : Comparison) (l : Limit) → upper_limit c ≡ Some l → Allows r d c → Kept r d l
+pub limit_kept : (r : Record) (d : ℕ) (c : Comparison) (l : Limit) → upper_limit c ≡ Some l → Allows r d c → LimitKept r d l
 limit_kept r d (timer_against y AtLeast m) l e h = cc
 limit_kept r d (timer_against y Above m) l e h = cc
 limit_kept r d (timer_against y AtMost m) l e h = kept_along r d (record { timer = y; seconds = m }) l e h
@@ -31,7 +31,7 @@ limit_kept r d (timer_against y Below m) l e h =
 limit_kept r d (lead_against y z ~ m) l e h = cc
 
 -- the seconds of a limit bound what timer x shows while it is kept
-pub bound_kept : (r : Record) (d x b : ℕ) (l : Limit) → Kept r d l → count r (timer_no r x) ≤ 2 * r.classes * b → count r (timer_no r x) + d ≤ 2 * r.classes * bound_by x b l
+pub bound_kept : (r : Record) (d x b : ℕ) (l : Limit) → LimitKept r d l → count r (timer_no r x) ≤ 2 * r.classes * b → count r (timer_no r x) + d ≤ 2 * r.classes * bound_by x b l
 bound_kept r d x b l h k = go (cases_eq l.timer x)
   where
     go : (l.timer ≡ x) ⊎ (l.timer ≡ x → ⊥) → count r (timer_no r x) + d ≤ 2 * r.classes * bound_by x b l

@@ -1,10 +1,10 @@
 -- What is among the warnings of a plan.
-use Rattle.std.proofs.Common.{◌≡◌, ℕ, zero, suc, ◌+◌, add-one, append_assoc, append-nil, ◌<◌, ◌≤◌, Bool, true, false, cond, ◌⊎◌, List, [], ◌∷◌, ◌++◌, length, get_or, Option, Some, None, Contains, sym, refl, ap, ◌∙◌, subst, inl, inr, arith}
+use Rattle.std.proofs.Common.{◌≡◌, ℕ, zero, suc, ◌+◌, add-one, append_assoc, ◌<◌, Bool, true, false, cond, ◌⊎◌, List, [], ◌∷◌, ◌++◌, length, Option, Some, None, Contains, sym, refl, ap, ◌∙◌, subst, inl, inr, arith}
 use Rattle.std.proofs.lemmas.Bool.{cases_eq}
 use Rattle.std.proofs.lemmas.List.Elements.{Contains-append_left, Contains-append_right, Contains-append_cases}
 use Rattle.runs.specs.Plans.{Plan}
 use Rattle.warnings.specs.Arrivals.{arrivals_in}
-use Rattle.warnings.specs.Warned.{arrival_warned, ceiling_may_end_hold, ceilings_warned, has_no_way_out, stages_warned, warned, warned_in}
+use Rattle.warnings.specs.Warned.{arrival_warned, ceiling_may_end_hold, ceilings_warned, has_no_way_out, stages_warned, warned_in}
 use Rattle.warnings.specs.declared.Warning.{Warning}
 use Rattle.warnings.specs.declared.Warning.TheVariants.{CeilingMayEndHold, NoWayOut}
 use Rattle.warnings.specs.declared.bounds.Bounds.{Bounds}

@@ -1,5 +1,5 @@
 -- What is known of a checked plan's rows, and tests over mapped rows.
-use Rattle.std.proofs.Common.{◌≡◌, ℕ, ◌<◌, ◌≤◌, Bool, true, ◌||◌, List, [], ◌∷◌, map, length, refl, ap, ap₂, arith}
+use Rattle.std.proofs.Common.{◌≡◌, ◌≤◌, Bool, true, ◌||◌, List, [], ◌∷◌, map, length, refl, ap, arith}
 use Rattle.std.specs.List.{list_any}
 use Rattle.rows.specs.declared.section.SectionName.TheVariants.{Timers, Stages}
 use Rattle.rows.specs.Plans.{PlanRows}

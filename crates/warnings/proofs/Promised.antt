@@ -1,9 +1,9 @@
 -- What the warnings of a table that keeps the rules promise.
-use Rattle.std.proofs.Common.{◌≡◌, ℕ, ◌<◌, ◌≤◌, Bool, true, false, not, ◌&&◌, ◌⊎◌, List, [], ◌∷◌, length, Option, Some, Contains, sym, refl, ap, ◌∙◌, subst, inl, inr, arith}
+use Rattle.std.proofs.Common.{◌≡◌, ℕ, ◌<◌, true, false, not, ◌⊎◌, List, length, Option, Contains, sym, ap, subst, inl, inr}
 use Rattle.std.specs.List.{list_all}
 use Rattle.std.proofs.lemmas.Bool.{and_from, cases_Bool, not_from_false}
 use Rattle.runs.specs.Plans.{Change, Plan, Sound, stage_of}
-use Rattle.warnings.specs.Arrivals.{Closed, arrivals_in, most_shown}
+use Rattle.warnings.specs.Arrivals.{Closed, most_shown}
 use Rattle.warnings.specs.Promised.{AStageWarnedAsWithoutAWayOutOffersNothing, AStageWithoutChangesIsWarned, WhereNothingIsWarnedTheHoldEndsBeforeTheCeiling}
 use Rattle.warnings.specs.Warned.{ceiling_may_end_hold, has_no_way_out, is_never_allowed, is_unmarked, warned}
 use Rattle.warnings.specs.declared.Warning.{Warning}

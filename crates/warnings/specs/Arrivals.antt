@@ -1,5 +1,5 @@
 -- The table of arrivals: for each stage none, if no open run arrives there, or the most seconds that each timer can show on arrival.
-use Rattle.std.specs.Prelude.{◌≡◌, ℕ, ◌<◌, ◌≤◌, Bool, true, false, ◌&&◌, ◌||◌, List, length, fold, Option, Some, None, ◌==◌, slice_index, slice_index_or, IsSome}
+use Rattle.std.specs.Prelude.{◌≡◌, ℕ, ◌<◌, ◌≤◌, Bool, false, ◌&&◌, ◌||◌, List, length, fold, Option, Some, None, ◌==◌, slice_index, slice_index_or}
 use Rattle.std.specs.List.{AllByRecursion}
 use Rattle.runs.specs.Plans.{Plan, Change, Outcome, stage_of}
 use Rattle.warnings.specs.Limits.{narrowed}

@@ -12,10 +12,10 @@ abbrev pub HoldsThrough : Plan → ℕ → Record → ℕ → Type 0
 HoldsThrough plan i r d =
     (e : ℕ) → e ≤ d → inside e (cuts r (stage_of plan i).hold (upto d)) ≡ true
 
--- no wait that the hold of a run's stage allows takes a timer past its ceiling
-abbrev pub HoldKeepsUnder : Plan → ℕ → Run → Type 0
-HoldKeepsUnder plan timer run =
-    (d : ℕ) → HoldsThrough plan run.stage run.region d → count run.region (timer_no run.region timer) + d ≤ 2 * run.region.classes * slice_index plan.ceilings timer
+-- no wait through which the hold of stage i allows a run to stay takes the timer past its ceiling
+abbrev pub HoldKeepsUnder : Plan → ℕ → ℕ → Run → Type 0
+HoldKeepsUnder plan i timer run =
+    (d : ℕ) → HoldsThrough plan i run.region d → count run.region (timer_no run.region timer) + d ≤ 2 * run.region.classes * slice_index plan.ceilings timer
 
 -- every run that is open in stage i, whatever was drawn and called before
 abbrev pub EveryRunIn : Plan → ℕ → (Run → Type 0) → Type 0
@@ -24,7 +24,7 @@ EveryRunIn plan i P =
 
 -- no run that is in stage i passes the timer's ceiling while the hold allows it to wait: the hold ends the hold interval there, and not this ceiling
 abbrev pub TheHoldEndsBeforeTheCeiling : Plan → ℕ → ℕ → Type 0
-TheHoldEndsBeforeTheCeiling plan i timer = EveryRunIn plan i (HoldKeepsUnder plan timer)
+TheHoldEndsBeforeTheCeiling plan i timer = EveryRunIn plan i (HoldKeepsUnder plan i timer)
 
 -- no run that is in stage i is ever offered a change
 abbrev pub NothingIsEverPossible : Plan → ℕ → Type 0

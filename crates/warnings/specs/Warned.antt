@@ -1,5 +1,5 @@
 -- The warnings of a plan, by a table of arrivals.
-use Rattle.std.specs.Prelude.{ℕ, zero, suc, Bool, false, not, cond, ◌&&◌, ◌||◌, List, [], ◌∷◌, ◌++◌, length, Option, Some, None, nat_le, nat_lt, slice_index}
+use Rattle.std.specs.Prelude.{ℕ, zero, suc, Bool, false, not, cond, ◌&&◌, List, [], ◌∷◌, ◌++◌, length, Option, Some, None, nat_le, nat_lt, slice_index}
 use Rattle.std.specs.List.{list_all, list_any}
 use Rattle.theory.specs.Regions.{Relation, AtLeast, Above, AtMost, Below, Comparison, timer_against, lead_against}
 use Rattle.runs.specs.Plans.{Plan, stage_of}

@@ -2,7 +2,7 @@
 ghost use Rattle.std.specs.Prelude.{◌≡◌, slice_index};
 
 // The most timers that a plan may have.
-pub const MOST_TIMERS: usize = 16;
+pub(crate) const MOST_TIMERS: usize = 16;
 
 // The most whole seconds that each timer shows. Places past the plan's timers say nothing.
 #[derive(Clone, Copy, Debug, Default, PartialEq, Eq)]
@@ -12,7 +12,7 @@ pub struct Bounds {
 
 impl Bounds {
     // The most seconds that a timer shows.
-    pub fn of_timer(&self, timer: usize) -> u16
+    pub(crate) fn of_timer(&self, timer: usize) -> u16
         ensures { result ≡ slice_index self.now.most timer }
     {
         self.most.get(timer).copied().unwrap_or(0)

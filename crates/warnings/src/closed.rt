@@ -4,27 +4,19 @@ ghost use Rattle.offers.specs.Known.{plan_of, rows_of};
 ghost use Rattle.region.specs.Resetting.{marks};
 ghost use Rattle.rows.specs.Verdicts.{no_change, no_outcome};
 ghost use Rattle.runs.specs.Tables.{change_of_row, outcome_of_row};
-ghost use Rattle.warnings.specs.Arrivals.{ChangeFollowed, ChangesFollowed, Closed, Covers, Followed, StageClosed, arrivals_in};
+ghost use Rattle.warnings.specs.Arrivals.{ChangeFollowed, ChangesFollowed, Closed, Covers, Followed, StageClosed};
 
 use crate::bounds::Bounds;
 use crate::leaving::leaving;
 use crate::stage::{changes, is_final, stages, timers};
+use crate::table::arrivals_in;
 use offers::sound_plan::Plan;
 use rows::tables::{ChangeRow, OutcomeRow, names};
 
-// What a table says of a stage.
-pub(crate) fn arrivals_in(table: &[Option<Bounds>], stage: u16) -> Option<Bounds>
-    ensures { result ≡ arrivals_in table.now stage }
-{
-    match table.get(usize::from(stage)) {
-        Some(arrival) => *arrival,
-        None => None,
-    }
-}
-
-// Whether the timers that an outcome leaves alone show no more before it than the bounds of an arrival.
+// Whether the timers that an outcome leaves alone show no more before it than an arrival's bounds.
 fn is_covered(timers: usize, leaving: &Bounds, outcome: OutcomeRow, arrival: &Bounds) -> bool
-    ensures { IsTrue result → Covers timers (slice_index leaving.now.most) (marks timers outcome.resets) arrival.now }
+    ensures { IsTrue result → Covers timers (slice_index leaving.now.most)
+        (marks timers outcome.resets) arrival.now }
 {
     for timer in 0..timers {
         if !names(outcome.resets, timer) && leaving.of_timer(timer) > arrival.of_timer(timer) {
@@ -41,8 +33,8 @@ fn is_followed(
     leaving: &Bounds,
     outcome: OutcomeRow,
 ) -> bool
-    ensures { IsTrue result → Followed (plan_of plan.now) table.now (slice_index leaving.now.most)
-        (outcome_of_row (rows_of plan.now) outcome) }
+    ensures { IsTrue result → Followed (plan_of plan.now) table.now
+        (slice_index leaving.now.most) (outcome_of_row (rows_of plan.now) outcome) }
 {
     match arrivals_in(table, outcome.stage) {
         Some(arrival) => is_covered(timers(plan), leaving, outcome, &arrival),
@@ -57,8 +49,8 @@ fn is_change_followed(
     leaving: &Bounds,
     change: ChangeRow,
 ) -> bool
-    ensures { IsTrue result → ChangeFollowed (plan_of plan.now) table.now (slice_index leaving.now.most)
-        (change_of_row (rows_of plan.now) change) }
+    ensures { IsTrue result → ChangeFollowed (plan_of plan.now) table.now
+        (slice_index leaving.now.most) (change_of_row (rows_of plan.now) change) }
 {
     for outcome in plan.tables().outcomes_of(change) {
         if !is_followed(plan, table, leaving, *outcome) {
@@ -68,15 +60,15 @@ fn is_change_followed(
     true
 }
 
-// Whether each change of a stage that runs leave so is followed.
+// Whether each of some changes is followed.
 fn are_changes_followed(
     plan: &Plan<'_>,
     table: &[Option<Bounds>],
     leaving: &Bounds,
     changes: &[ChangeRow],
 ) -> bool
-    ensures { IsTrue result → ChangesFollowed (plan_of plan.now) table.now (slice_index leaving.now.most)
-        (map (change_of_row (rows_of plan.now)) changes.now) }
+    ensures { IsTrue result → ChangesFollowed (plan_of plan.now) table.now
+        (slice_index leaving.now.most) (map (change_of_row (rows_of plan.now)) changes.now) }
 {
     for change in changes {
         if !is_change_followed(plan, table, leaving, *change) {
@@ -106,7 +98,8 @@ fn is_stage_closed(plan: &Plan<'_>, table: &[Option<Bounds>], stage: u16) -> boo
 
 // Whether a table keeps the rules of every stage.
 fn are_stages_closed(plan: &Plan<'_>, table: &[Option<Bounds>]) -> bool
-    ensures { IsTrue result → (i : ℕ) → i < length (plan_of plan.now).stages → StageClosed (plan_of plan.now) table.now i }
+    ensures { IsTrue result → (i : ℕ) → i < length (plan_of plan.now).stages
+        → StageClosed (plan_of plan.now) table.now i }
 {
     for stage in 0..stages(plan) {
         if !is_stage_closed(plan, table, stage) {

@@ -6,7 +6,8 @@ ghost use Rattle.warnings.specs.Limits.{ends_in_time, ended_by, narrowed};
 use crate::limit::Limit;
 use rows::tables::ComparisonRow;
 
-// What a comparison leaves of the most seconds that a timer can show, if it showed at most `arrived` on arrival.
+// What a comparison leaves of the most seconds that a timer can show, if it showed at most
+// `arrived` on arrival.
 fn narrowed(most: u16, timer: usize, arrived: u16, row: ComparisonRow) -> u16
     ensures { result ≡ narrowed timer arrived most (comparison_of_row row) }
 {
@@ -16,13 +17,9 @@ fn narrowed(most: u16, timer: usize, arrived: u16, row: ComparisonRow) -> u16
     }
 }
 
-// The most seconds that a timer can show while a hold allows waits, if it showed at most `arrived` on arrival and stops at the ceiling.
-pub(crate) fn most_held(
-    hold: &[ComparisonRow],
-    timer: usize,
-    arrived: u16,
-    ceiling: u16,
-) -> u16
+// The most seconds that a timer can show while a hold allows waits, if it showed at most `arrived`
+// on arrival and stops at the ceiling.
+pub(crate) fn most_held(hold: &[ComparisonRow], timer: usize, arrived: u16, ceiling: u16) -> u16
     ensures { result ≡ fold (narrowed timer arrived) ceiling (map comparison_of_row hold.now) }
 {
     let mut most = ceiling;

@@ -9,12 +9,7 @@ use crate::stage::{ceiling, hold, timers};
 use offers::sound_plan::Plan;
 
 // The most seconds that a timer can show before a stage is left.
-pub(crate) fn most_on_leaving(
-    plan: &Plan<'_>,
-    stage: u16,
-    arrival: &Bounds,
-    timer: usize,
-) -> u16
+pub(crate) fn most_on_leaving(plan: &Plan<'_>, stage: u16, arrival: &Bounds, timer: usize) -> u16
     ensures { result ≡ most_on_leaving (plan_of plan.now) stage arrival.now timer }
 {
     most_held(

@@ -1,5 +1,5 @@
 // The upper limit that a comparison sets on one timer.
-ghost use Rattle.std.specs.Prelude.{◌≡◌, max, cond, ◌+◌, ◌==◌};
+ghost use Rattle.std.specs.Prelude.{◌≡◌};
 ghost use Rattle.runs.specs.Tables.{comparison_of_row};
 ghost use Rattle.warnings.specs.Limits.{allowed_by, bound_by, upper_limit};
 
@@ -28,7 +28,8 @@ impl Limit {
         }
     }
 
-    // The most seconds that a timer can show while the limit is kept, if it showed at most `arrived` on arrival.
+    // The most seconds that a timer can show while the limit is kept, if it showed at most `arrived`
+    // on arrival.
     pub(crate) fn allows(self, timer: usize, arrived: u16) -> u32
         ensures { result ≡ allowed_by timer arrived self }
     {
@@ -39,7 +40,8 @@ impl Limit {
         }
     }
 
-    // The seconds by which the limit ends every wait of a timer: its own, or those of another timer after the arrival.
+    // The seconds of a timer by which the limit ends every wait: a limit on another timer lets at
+    // most its seconds pass after the arrival.
     pub(crate) fn ends(self, timer: usize, arrived: u16) -> u32
         ensures { result ≡ bound_by timer arrived self }
     {

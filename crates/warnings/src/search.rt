@@ -6,10 +6,11 @@ use offers::sound_plan::Plan;
 use rows::tables::{ChangeRow, OutcomeRow, names};
 use std::alloc::{AllocError, Global};
 
-// How many outcomes are followed at most, and how many times all stages are passed.
+// How much work a search does at most. An outcome that is followed counts 1.
 const MOST_WORK: u32 = 20_000_000;
 
-const MOST_PASSES: u32 = 10_000;
+// How much a stage counts beside its outcomes.
+const WORK_OF_STAGE: u32 = 32;
 
 // Raises the bounds of an arrival to what an outcome leaves. Tells whether any grew.
 fn raise(timers: usize, leaving: &Bounds, outcome: OutcomeRow, arrival: &mut Bounds) -> bool {
@@ -81,10 +82,11 @@ fn pass(plan: &Plan<'_>, table: &mut [Option<Bounds>]) -> bool {
     grew
 }
 
-// How many outcomes a pass follows at most.
+// How much work a pass over all stages does at most.
 fn work(plan: &Plan<'_>) -> u32 {
-    let mut work = 0u32;
+    let mut work = 1u32;
     for stage in 0..stages(plan) {
+        work = work.saturating_add(WORK_OF_STAGE);
         for change in changes(plan, stage) {
             work = work.saturating_add(u32::from(change.outcomes));
         }
@@ -94,9 +96,7 @@ fn work(plan: &Plan<'_>) -> u32 {
 
 // How many passes a search makes at most.
 fn passes(plan: &Plan<'_>) -> u32 {
-    let stages = u32::from(stages(plan));
-    let work = work(plan).saturating_add(stages * 32);
-    (MOST_WORK / work.max(1)).clamp(1, MOST_PASSES)
+    MOST_WORK / work(plan).max(1)
 }
 
 // A table in which stage 0 is arrived in with all timers at zero, and no other stage.
@@ -114,10 +114,7 @@ fn first_arrival(heap: Global, plan: &Plan<'_>) -> Result<Vec<Option<Bounds>>, A
 }
 
 // A table that keeps the rules of arrivals, unless the search stops before its end.
-pub(crate) fn candidate(
-    heap: Global,
-    plan: &Plan<'_>,
-) -> Result<Vec<Option<Bounds>>, AllocError> {
+pub(crate) fn candidate(heap: Global, plan: &Plan<'_>) -> Result<Vec<Option<Bounds>>, AllocError> {
     let mut table = first_arrival(heap, plan)?;
     for _ in 0..passes(plan) {
         if !pass(plan, &mut table) {

@@ -44,7 +44,8 @@ pub(crate) fn hold<'a>(plan: &Plan<'a>, stage: u16) -> &'a [ComparisonRow]
 
 // The changes of a stage.
 pub(crate) fn changes<'a>(plan: &Plan<'a>, stage: u16) -> &'a [ChangeRow]
-    ensures { map (change_of_row (rows_of plan.now)) result.now ≡ (stage_of (plan_of plan.now) stage).changes }
+    ensures { map (change_of_row (rows_of plan.now)) result.now
+        ≡ (stage_of (plan_of plan.now) stage).changes }
 {
     plan.tables().changes_of(plan.stage_row(stage))
 }

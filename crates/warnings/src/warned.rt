@@ -5,9 +5,9 @@ ghost use Rattle.warnings.specs.Warned.{ceiling_may_end_hold, ceilings_warned, w
 
 use crate::Warning;
 use crate::bounds::Bounds;
-use crate::closed::arrivals_in;
 use crate::hold::is_ended_in_time;
 use crate::stage::{ceiling, hold, stages, timers};
+use crate::table::arrivals_in;
 use crate::ways::has_no_way_out;
 use offers::sound_plan::Plan;
 use std::alloc::{AllocError, Global};
@@ -32,7 +32,8 @@ fn warn_of_ceilings(
     found: &mut Vec<Warning>,
 ) -> Result<(), AllocError>
     ensures { OnOk result (found.new.items ≡ found.old.items
-        ++ ceilings_warned (plan_of plan.now) stage arrival.now (length (plan_of plan.now).ceilings)) }
+        ++ ceilings_warned (plan_of plan.now) stage arrival.now
+        (length (plan_of plan.now).ceilings)) }
 {
     for timer in 0..timers(plan) {
         if ceiling_may_end_hold(plan, stage, arrival, timer) {
@@ -52,7 +53,8 @@ fn warn_of_stage(
     stage: u16,
     found: &mut Vec<Warning>,
 ) -> Result<(), AllocError>
-    ensures { OnOk result (found.new.items ≡ found.old.items ++ warned_in (plan_of plan.now) table.now stage) }
+    ensures { OnOk result (found.new.items ≡ found.old.items
+        ++ warned_in (plan_of plan.now) table.now stage) }
 {
     if let Some(arrival) = arrivals_in(table, stage) {
         warn_of_ceilings(plan, stage, &arrival, found)?;

@@ -6,14 +6,14 @@ ghost use Rattle.warnings.specs.Arrivals.{most_shown};
 ghost use Rattle.warnings.specs.Warned.{has_no_way_out, is_never_allowed, is_out_of_reach, too_low};
 
 use crate::bounds::Bounds;
-use crate::closed::arrivals_in;
 use crate::leaving::most_on_leaving;
 use crate::stage::{ceiling, changes, is_unmarked};
+use crate::table::arrivals_in;
 use offers::sound_plan::Plan;
 use rows::reading::Relation;
 use rows::tables::{ChangeRow, ComparisonRow};
 
-// The most seconds that a timer can show in a stage before it is left; its ceiling where no run arrives.
+// The most seconds that a timer can show in a stage; its ceiling where no run arrives open.
 fn most_shown(plan: &Plan<'_>, table: &[Option<Bounds>], stage: u16, timer: usize) -> u16
     ensures { result ≡ most_shown (plan_of plan.now) table.now stage timer }
 {
@@ -46,10 +46,7 @@ fn is_never_allowed(
         (map comparison_of_row guard.now) }
 {
     guard.iter().any(|row| {
-        is_too_low(
-            *row,
-            most_shown(plan, table, stage, usize::from(row.first)),
-        )
+        is_too_low(*row, most_shown(plan, table, stage, usize::from(row.first)))
     })
 }
 

@@ -20,7 +20,8 @@ fn ceilings(plan: &Plan<'_>) -> Bounds
     bounds
 }
 
-// The table in which runs arrive in every stage that is not final, and every timer may show its ceiling there.
+// The table in which runs arrive in every stage that is not final, where each timer may show its
+// ceiling.
 pub(crate) fn widest(heap: Global, plan: &Plan<'_>) -> Result<Vec<Option<Bounds>>, AllocError>
     ensures { IfOk result (λ table. Closed (plan_of plan.now) table.items) }
 {

@@ -1,4 +1,4 @@
-use Rattle.std.proofs.Common.{◌≡◌, ℕ, ◌<◌, length, get_or, arith}
+use Rattle.std.proofs.Common.{get_or, arith}
 use Rattle.offers.specs.Known.{plan_of, rows_of}
 use Rattle.rows.specs.Verdicts.{no_change}
 use Rattle.runs.specs.Tables.{change_of_row}

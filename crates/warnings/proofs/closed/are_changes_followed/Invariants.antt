@@ -1,4 +1,4 @@
-use Rattle.std.proofs.Common.{◌≡◌, ℕ, ◌<◌, get_or}
+use Rattle.std.proofs.Common.{ℕ, ◌<◌, get_or}
 use Rattle.offers.specs.Known.{plan_of, rows_of}
 use Rattle.rows.specs.Verdicts.{no_change}
 use Rattle.runs.specs.Tables.{change_of_row}

@@ -1,4 +1,4 @@
-use Rattle.std.proofs.Common.{◌≡◌, IsTrue, rules}
+use Rattle.std.proofs.Common.{IsTrue, rules}
 use borrow.Author.Count.{below_more}
 use Rattle.offers.specs.Known.{plan_of}
 use Rattle.warnings.specs.Arrivals.{StageClosed}

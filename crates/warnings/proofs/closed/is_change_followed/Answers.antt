@@ -1,4 +1,4 @@
-use Rattle.std.proofs.Common.{◌≡◌, ℕ, ◌<◌, List, map, length, take, drop, get_or, ap, ◌∙◌, subst, arith}
+use Rattle.std.proofs.Common.{List, map, take, drop, get_or, ap, ◌∙◌, subst, arith}
 use Rattle.std.specs.List.{AllByRecursion}
 use Rattle.offers.specs.Known.{plan_of, rows_of}
 use Rattle.rows.specs.declared.tables.OutcomeRow.{OutcomeRow}

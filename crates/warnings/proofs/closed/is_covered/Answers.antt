@@ -1,4 +1,4 @@
-use Rattle.std.proofs.Common.{◌≡◌, ◌≤◌, true, false, get_or, ◌∙◌, rules, arith}
+use Rattle.std.proofs.Common.{◌≡◌, true, get_or, ◌∙◌, rules, arith}
 use Rattle.std.proofs.lemmas.Bool.{both_ways, ltb-false}
 use Rattle.region.specs.Resetting.{marks}
 use Rattle.warnings.proofs.Closing.{covers_more, not_named}

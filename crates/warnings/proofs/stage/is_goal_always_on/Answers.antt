@@ -1,4 +1,4 @@
-use Rattle.std.proofs.Common.{◌≡◌, ap, arith, length}
+use Rattle.std.proofs.Common.{ap, arith, length}
 use Rattle.offers.specs.Known.{rows_of}
 use Rattle.offers.proofs.Known.{some_goal}
 use Rattle.warnings.proofs.stage.is_goal_always_on.Goals as goal

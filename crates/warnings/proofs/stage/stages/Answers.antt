@@ -1,4 +1,4 @@
-use Rattle.std.proofs.Common.{◌≡◌, ap, arith, length}
+use Rattle.std.proofs.Common.{ap, arith, length}
 use Rattle.offers.specs.Known.{rows_of}
 use Rattle.warnings.proofs.Plain.{few_stages}
 use Rattle.warnings.proofs.stage.stages.Goals as goal

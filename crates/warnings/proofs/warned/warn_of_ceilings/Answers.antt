@@ -1,8 +1,6 @@
-use Rattle.std.proofs.Common.{◌≡◌, true, false, List, [], ◌∷◌, ◌++◌, cond, sym, ap, ◌∙◌, append-nil, rules}
+use Rattle.std.proofs.Common.{◌≡◌, [], ◌∷◌, ◌++◌, cond, sym, ap, ◌∙◌, append-nil, rules}
 use Rattle.offers.specs.Known.{plan_of}
-use Rattle.warnings.specs.declared.Warning.{Warning}
 use Rattle.warnings.specs.declared.Warning.TheVariants.{CeilingMayEndHold}
-use Rattle.warnings.specs.Warned.{ceiling_may_end_hold, ceilings_warned}
 use Rattle.warnings.proofs.Listed.{ceilings_more}
 use Rattle.warnings.proofs.warned.warn_of_ceilings.Goals as goal
 use Rattle.warnings.proofs.warned.warn_of_ceilings.Goals.{then-ceiling_may_end_hold+in_ok-push, else-ceiling_may_end_hold}

@@ -1,4 +1,4 @@
-use Rattle.std.proofs.Common.{◌≡◌, ℕ, get_or, arith, ◌∙◌, length}
+use Rattle.std.proofs.Common.{get_or, arith, ◌∙◌}
 use Rattle.std.proofs.lemmas.List.{length-set}
 use Rattle.offers.specs.Known.{plan_of}
 use Rattle.warnings.proofs.Bounding.{set_more}

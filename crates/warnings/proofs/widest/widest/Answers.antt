@@ -1,4 +1,4 @@
-use Rattle.std.proofs.Common.{◌≡◌, ◌∙◌, ap, arith, length}
+use Rattle.std.proofs.Common.{arith}
 use Rattle.offers.specs.Known.{plan_of, rows_of}
 use Rattle.runs.proofs.Tables.{plan_sound}
 use Rattle.warnings.proofs.Bounding.{widest_closed}
