@@ -44,7 +44,8 @@ pub fn warnings(heap: Global, plan: Plan<'_>) -> Result<Vec<Warning>, AllocError
         × Closed (plan_of plan.entry) table
         × (found.items ≡ warned (plan_of plan.entry) table)) }
     ensures where_nothing_is_warned_the_hold_ends_before_the_ceiling { IfOk result
-        (λ found. WhereNothingIsWarnedTheHoldEndsBeforeTheCeiling (plan_of plan.entry) found.items) }
+        (λ found. WhereNothingIsWarnedTheHoldEndsBeforeTheCeiling (plan_of plan.entry)
+        found.items) }
     ensures a_stage_warned_as_without_a_way_out_offers_nothing { IfOk result
         (λ found. AStageWarnedAsWithoutAWayOutOffersNothing (plan_of plan.entry) found.items) }
     ensures a_stage_without_changes_is_warned { IfOk result

@@ -28,8 +28,8 @@ impl Limit {
         }
     }
 
-    // The most seconds that a timer can show while the limit is kept, if it showed at most `arrived`
-    // on arrival.
+    // The most seconds that a timer can show while the limit is kept, if it showed at most
+    // `arrived` on arrival.
     pub(crate) fn allows(self, timer: usize, arrived: u16) -> u32
         ensures { result ≡ allowed_by timer arrived self }
     {
