@@ -1,8 +1,7 @@
 // Whether a table of arrivals keeps its rules.
-ghost use Rattle.std.specs.Prelude.{◌≡◌, ℕ, ◌<◌, ◌≤◌, map, length, IsTrue, slice_index, slice_index_or};
+ghost use Rattle.std.specs.Prelude.{ℕ, ◌<◌, map, length, IsTrue, slice_index};
 ghost use Rattle.offers.specs.Known.{plan_of, rows_of};
 ghost use Rattle.region.specs.Resetting.{marks};
-ghost use Rattle.rows.specs.Verdicts.{no_change, no_outcome};
 ghost use Rattle.runs.specs.Tables.{change_of_row, outcome_of_row};
 ghost use Rattle.warnings.specs.Arrivals.{ChangeFollowed, ChangesFollowed, Closed, Covers, Followed, StageClosed};
 

@@ -1,5 +1,5 @@
 // How a hold ends the waits in a stage.
-ghost use Rattle.std.specs.Prelude.{◌≡◌, ◌≤◌, fold, map};
+ghost use Rattle.std.specs.Prelude.{◌≡◌, fold, map};
 ghost use Rattle.runs.specs.Tables.{comparison_of_row};
 ghost use Rattle.warnings.specs.Limits.{ends_in_time, ended_by, narrowed};
 

@@ -1,9 +1,9 @@
 // Whether a change can ever be possible in a stage.
 ghost use Rattle.std.specs.Prelude.{◌≡◌, map};
-ghost use Rattle.offers.specs.Known.{plan_of, rows_of};
-ghost use Rattle.runs.specs.Tables.{change_of_row, comparison_of_row};
+ghost use Rattle.offers.specs.Known.{plan_of};
+ghost use Rattle.runs.specs.Tables.{comparison_of_row};
 ghost use Rattle.warnings.specs.Arrivals.{most_shown};
-ghost use Rattle.warnings.specs.Warned.{has_no_way_out, is_never_allowed, is_out_of_reach, too_low};
+ghost use Rattle.warnings.specs.Warned.{has_no_way_out, is_never_allowed, too_low};
 
 use crate::bounds::Bounds;
 use crate::leaving::most_on_leaving;
@@ -11,7 +11,7 @@ use crate::stage::{ceiling, changes, is_unmarked};
 use crate::table::arrivals_in;
 use offers::sound_plan::Plan;
 use rows::reading::Relation;
-use rows::tables::{ChangeRow, ComparisonRow};
+use rows::tables::ComparisonRow;
 
 // The most seconds that a timer can show in a stage; its ceiling where no run arrives open.
 fn most_shown(plan: &Plan<'_>, table: &[Option<Bounds>], stage: u16, timer: usize) -> u16
