@@ -27,9 +27,9 @@ one_move_more words n d ms m there all here =
     let two : 2 * (n + 1) ≡ 2 * n + 1 + 1 = omega arith in
     let first : take (2 * n + 1) words ≡ take (2 * n) words ++ name ∷ [] = take_more words (2 * n) d (omega arith) in
     let whole : take (2 * (n + 1)) words ≡ take (2 * n) words ++ name ∷ value ∷ [] =
-        ap (λ k. take k words) two ∙ take_more words (2 * n + 1) d there ∙ ap (λ (z : Words). z ++ value ∷ []) first ∙ append_assoc (take (2 * n) words) (name ∷ []) (value ∷ []) in
+    ap (λ k. take k words) two ∙ take_more words (2 * n + 1) d there ∙ ap (λ (z : Words). z ++ value ∷ []) first ∙ append_assoc (take (2 * n) words) (name ∷ []) (value ∷ []) in
     let said : map said_by (take (2 * (n + 1)) words) ≡ map said_by (take (2 * n) words) ++ name.now ∷ value.now ∷ [] =
-        ap (map said_by) whole ∙ map-append said_by (take (2 * n) words) (name ∷ value ∷ []) in
+    ap (map said_by) whole ∙ map-append said_by (take (2 * n) words) (name ∷ value ∷ []) in
     subst (λ (z : List (List ℕ)). AskMoves z (ms ++ m ∷ [])) (sym said) (AskMoves-append (map said_by (take (2 * n) words)) ms name.now value.now m all here)
 
 -- where an even number of words has been read, they are all

@@ -10,9 +10,9 @@ ghost use Rattle.runs.specs.Tables.{plan_in};
 ghost use Rattle.commands.specs.Files.{rows_read};
 ghost use Rattle.commands.specs.Sources.{book_asked};
 
-use crate::files::PlanFile;
 use crate::command::Command;
 use crate::failure::Failure;
+use crate::files::PlanFile;
 use crate::options::{Options, file_of};
 use crate::sources::Draws;
 use anyhow::anyhow;
@@ -106,15 +106,9 @@ fn rows_of(
         IfOk result (λ rows. (refusal_of n limits n ≡ None) × (rows.items ≡ made.rows)) }
 {
     let mut rows = vec![in rt.alloc(); BatchRow::default(); identifiers.len()]?;
+    let handed = file.handed();
     let mut source = draws.source_at(0);
-    fill_rows(
-        rt,
-        file.handed(),
-        &mut source,
-        identifiers,
-        limits,
-        &mut rows,
-    )?;
+    fill_rows(rt, handed, &mut source, identifiers, limits, &mut rows)?;
     Ok(rows)
 }
 
@@ -196,14 +190,28 @@ fn print_table(
 ) -> anyhow::Result<()> {
     let runs = limits.runs;
     if !has_beside {
-        print!(rt; "{}", BatchTable { rows, beside: &[], runs })?;
+        print!(rt;
+            "{}",
+            BatchTable {
+                rows,
+                beside: &[],
+                runs
+            }
+        )?;
         return Ok(());
     }
     let beside = [
         beside_of(file, draws, Named::Earliest, limits)?,
         beside_of(file, draws, Named::Latest, limits)?,
     ];
-    print!(rt; "{}", BatchTable { rows, beside: &beside, runs })?;
+    print!(rt;
+        "{}",
+        BatchTable {
+            rows,
+            beside: &beside,
+            runs
+        }
+    )?;
     Ok(())
 }
 

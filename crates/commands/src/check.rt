@@ -1,12 +1,35 @@
 // What a plan file says.
+ghost use Rattle.std.specs.Prelude.{IfOk};
+ghost use Rattle.runs.specs.Tables.{plan_in};
+ghost use Rattle.warnings.specs.Promised.{AStageWarnedAsWithoutAWayOutOffersNothing, AStageWithoutChangesIsWarned};
+ghost use Rattle.warnings.specs.Promised.{WhereNothingIsWarnedTheHoldEndsBeforeTheCeiling};
+ghost use Rattle.commands.specs.Files.{rows_read};
+
 use crate::failure::Failure;
 use crate::files::PlanFile;
 use crate::options::file_of;
 use clap::ArgMatches;
+use describe::plan_warning::ShownWarning;
 use describe::plans::ShownPlan;
+use offers::sound_plan::Plan;
 use plan::handed::Handed;
+use std::alloc::{AllocError, Global};
+use warnings::{Warning, warnings};
 
-// Prints the six counts and the plan in words, or the rule that the file breaks.
+// The warnings of the plan of a file.
+fn warnings_of(heap: Global, file: &PlanFile) -> Result<Vec<Warning>, AllocError>
+    ensures no_false_comfort { IfOk result (λ found.
+        WhereNothingIsWarnedTheHoldEndsBeforeTheCeiling (plan_in (rows_read file.now)) found.items) }
+    ensures no_false_dead_end { IfOk result (λ found.
+        AStageWarnedAsWithoutAWayOutOffersNothing (plan_in (rows_read file.now)) found.items) }
+    ensures no_missed_dead_end { IfOk result (λ found.
+        AStageWithoutChangesIsWarned (plan_in (rows_read file.now)) found.items) }
+{
+    warnings(heap, Plan::of_tables(file.handed()))
+}
+
+// Prints the six counts and the plan in words, or the rule that the file breaks, and what a planner
+// is warned of.
 fn print_plan(rt: &HostRuntime, path: &str) -> anyhow::Result<()> {
     let file = PlanFile::open(rt, path)?;
     let Handed { tables, counts } = file.handed();
@@ -20,6 +43,16 @@ fn print_plan(rt: &HostRuntime, path: &str) -> anyhow::Result<()> {
         counts.goals
     )?;
     print!(rt; "{}", ShownPlan(tables))?;
+    let timers = tables.timers;
+    for warning in warnings_of(rt.alloc(), &file)?.iter() {
+        println!(rt;
+            "{}",
+            ShownWarning {
+                warning: *warning,
+                timers
+            }
+        )?;
+    }
     Ok(())
 }
 

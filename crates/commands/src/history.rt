@@ -2,9 +2,9 @@
 ghost use Rattle.std.specs.Prelude.{◌≡◌, ◌∷◌, replicate, IfOk};
 ghost use Rattle.run.specs.declared.call.Call.TheVariants.{Standing, Step};
 
-use crate::files::PlanFile;
 use crate::command::Command;
 use crate::failure::Failure;
+use crate::files::PlanFile;
 use crate::options::{Options, file_of};
 use crate::replay::entries_of;
 use clap::ArgMatches;

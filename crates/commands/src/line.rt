@@ -13,7 +13,8 @@ const EXAMPLES: &str = "examples:
 A command ends with status 0; 1 where its work failed or was refused; 2 where its words are wrong.";
 
 // What the help on moves ends with.
-const MOVES: &str = "A MOVE is 'wait STEPS', or 'reset' with timers between commas, as 'reset x0,x2'.
+const MOVES: &str =
+    "A MOVE is 'wait STEPS', or 'reset' with timers between commas, as 'reset x0,x2'.
 A step is 1/(2k) second in a region with k different fractions. A move that is refused is told, and
 the walk goes on from where it was.";
 
@@ -22,15 +23,14 @@ const CALLS: &str = "CALLS has a call a line: 'take CHANGE WAIT', 'step earliest
 'step sampled IDENTIFIER', 'offers' or 'standing'.";
 
 // What the help on batches ends with.
-const BATCHES: &str = "Run J of each scheduler, from 0, draws from row J of the source, and can be looked at by
+const BATCHES: &str =
+    "Run J of each scheduler, from 0, draws from row J of the source, and can be looked at by
 'junction run PLAN --scheduler IDENTIFIER --row J --steps 1000' with the same source.
 The best and the worst are those of the schedulers tried, and of no other.";
 
 // The plan file of a command.
 fn plan<'a>(heap: Global) -> Arg<'a> {
-    Arg::new(heap, "PLAN")
-        .required(true)
-        .help("the plan file")
+    Arg::new(heap, "PLAN").required(true).help("the plan file")
 }
 
 // An option that takes a value.
@@ -52,7 +52,12 @@ fn flag<'a>(heap: Global, name: &'a str, help: &'a str) -> Arg<'a> {
 
 // The options that say where the draws come from.
 fn with_draws<'a>(heap: Global, command: Command<'a>) -> Result<Command<'a>, AllocError> {
-    let seed = valued(heap, "seed", "N", "compute the draws from this seed [default: 0]");
+    let seed = valued(
+        heap,
+        "seed",
+        "N",
+        "compute the draws from this seed [default: 0]",
+    );
     let source = valued(
         heap,
         "source",
@@ -60,8 +65,14 @@ fn with_draws<'a>(heap: Global, command: Command<'a>) -> Result<Command<'a>, All
         "how they are computed: well mixed, or by the congruential rule [default: mixed]",
     )
     .value_parser(SOURCES.as_slice());
-    let tape = valued(heap, "tape", "FILE", "take the draws from a file of numbers below 2^32")
-        .conflicts_with_all(["seed", "source"].as_slice())?;
+    let tape = valued(
+        heap,
+        "tape",
+        "FILE",
+        "take the draws from a file of numbers below 2^32",
+    )
+    .conflicts_with("seed")?
+    .conflicts_with("source")?;
     let row_length = valued(
         heap,
         "row-length",
@@ -74,7 +85,12 @@ fn with_draws<'a>(heap: Global, command: Command<'a>) -> Result<Command<'a>, All
 
 // The row from which a single run draws.
 fn row<'a>(heap: Global) -> Arg<'a> {
-    valued(heap, "row", "J", "draw from row J of the source, as run J of a batch does [default: 0]")
+    valued(
+        heap,
+        "row",
+        "J",
+        "draw from row J of the source, as run J of a batch does [default: 0]",
+    )
 }
 
 // `batch`: many sampled schedulers.
@@ -89,23 +105,36 @@ fn batch<'a>(heap: Global) -> Result<Command<'a>, AllocError> {
             "LIST",
             "the sampled schedulers, FIRST..LAST or as 3,5,8, at most 1000 [default: 0..9]",
         ))?
-        .arg(valued(heap, "runs", "N", "the runs of each, 1 to 10000 [default: 1000]"))?
-        .arg(valued(heap, "steps", "N", "the most steps of a run, 1 to 10000 [default: 1000]"))?
+        .arg(valued(
+            heap,
+            "runs",
+            "N",
+            "the runs of each, 1 to 10000 [default: 1000]",
+        ))?
+        .arg(valued(
+            heap,
+            "steps",
+            "N",
+            "the most steps of a run, 1 to 10000 [default: 1000]",
+        ))?
         .arg(valued(
             heap,
             "allowance",
             "N",
             "the most steps of all runs together, 1 to 1000000000 [default: 1000000000]",
         ))?
-        .arg(
-            flag(
-                heap,
-                "earliest-latest",
-                "show beside them what the earliest and the latest scheduler come to in these runs",
-            )
-            .conflicts_with("plain")?,
-        )?
-        .arg(valued(heap, "csv", "FILE", "write the rows to a file as comma-separated values too"))?
+        .arg(flag(
+            heap,
+            "earliest-latest",
+            "show beside them what the earliest and the latest scheduler come to in these runs",
+        )
+        .conflicts_with("plain")?)?
+        .arg(valued(
+            heap,
+            "csv",
+            "FILE",
+            "write the rows to a file as comma-separated values too",
+        ))?
         .arg(flag(heap, "plain", "print the counts alone, for scripts"))?;
     with_draws(heap, command)
 }
@@ -113,14 +142,18 @@ fn batch<'a>(heap: Global) -> Result<Command<'a>, AllocError> {
 // `check`: what a plan file says.
 fn check<'a>(heap: Global) -> Result<Command<'a>, AllocError> {
     Command::new(heap, "check")
-        .about("Says what is in a plan file, or which rule it breaks, and warns of what may mislead")
+        .about(
+            "Says what is in a plan file, or which rule it breaks, and warns of what may mislead",
+        )
         .arg(plan(heap))
 }
 
 // `possible`: the first offers.
 fn possible<'a>(heap: Global) -> Result<Command<'a>, AllocError> {
     Command::new(heap, "possible")
-        .about("Says what may happen first: the changes possible in stage 0 with all timers at zero")
+        .about(
+            "Says what may happen first: the changes possible in stage 0 with all timers at zero",
+        )
         .arg(plan(heap))
 }
 
@@ -148,7 +181,12 @@ fn run<'a>(heap: Global) -> Result<Command<'a>, AllocError> {
             "NAME",
             "earliest, latest, or the identifier of a sampled one [default: earliest]",
         ))?
-        .arg(valued(heap, "steps", "N", "make at most so many steps, 1 to 10000 [default: 100]"))?
+        .arg(valued(
+            heap,
+            "steps",
+            "N",
+            "make at most so many steps, 1 to 10000 [default: 100]",
+        ))?
         .arg(row(heap))?;
     with_draws(heap, command)
 }
@@ -164,7 +202,11 @@ fn replay<'a>(heap: Global) -> Result<Command<'a>, AllocError> {
         .arg(plan(heap))?
         .arg(calls)?
         .arg(row(heap))?
-        .arg(flag(heap, "plain", "print numbers, whatever names a plan has, for scripts"))?;
+        .arg(flag(
+            heap,
+            "plain",
+            "print numbers, whatever names a plan has, for scripts",
+        ))?;
     with_draws(heap, command)
 }
 

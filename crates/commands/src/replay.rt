@@ -10,9 +10,9 @@ ghost use Rattle.commands.specs.Files.{rows_read};
 ghost use Rattle.commands.specs.Replays.{LinesAsk};
 ghost use Rattle.commands.specs.Sources.{book_asked};
 
-use crate::files::{PlanFile, text_of};
 use crate::command::Command;
 use crate::failure::Failure;
+use crate::files::{PlanFile, text_of};
 use crate::options::{Options, file_of};
 use crate::sources::Draws;
 use anyhow::{Context, anyhow};
@@ -86,12 +86,7 @@ pub fn entries_of(
 }
 
 // Makes the calls of a file, and prints a line for each.
-fn print_replies(
-    rt: &HostRuntime,
-    plan: &str,
-    path: &str,
-    options: Options,
-) -> anyhow::Result<()> {
+fn print_replies(rt: &HostRuntime, plan: &str, path: &str, options: Options) -> anyhow::Result<()> {
     let file = PlanFile::open(rt, plan)?;
     let text = text_of(rt, path)?;
     let calls = calls_for(rt.alloc(), path, text.as_str())?;

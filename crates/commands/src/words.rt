@@ -1,8 +1,7 @@
 // The words of the command line.
 use anyhow::anyhow;
 use std::env::{Env, FillError};
-use std::env;
-use std::str;
+use std::{env, str};
 
 // How long an argument may be to be looked at where another is no text.
 const LONGEST: usize = 4096;

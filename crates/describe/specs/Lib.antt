@@ -7,5 +7,5 @@ pub mod Losses
 pub mod Names
 pub mod Numbers
 pub mod Shares
-pub mod Warnings
+pub mod LossWarnings
 pub mod Words

@@ -22,4 +22,5 @@ mod seconds;
 pub mod shares;
 pub mod tables;
 mod timers;
-mod warnings;
+mod loss_warning;
+pub mod plan_warning;

@@ -1,7 +1,7 @@
 // Batches as tables, with shares in percent.
 use crate::losses::Beside;
 use crate::shares::{HalfWidth, Share};
-use crate::warnings::Warning;
+use crate::loss_warning::LossWarning;
 use batch::BatchRow;
 use batch::ranking::{fewest_reached, most_reached};
 use std::fmt;
@@ -131,7 +131,7 @@ impl<'a> fmt::Display for BatchTable<'a> {
         }
         write!(f, "{}", BestAndWorst { rows, runs })?;
         writeln!(f, "{HALF_WIDTH}")?;
-        if let Some(warning) = Warning::of(rows, beside, runs) {
+        if let Some(warning) = LossWarning::of(rows, beside, runs) {
             writeln!(f, "{warning}")?;
         }
         Ok(())

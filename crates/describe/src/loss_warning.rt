@@ -1,7 +1,7 @@
 // What is said where many runs of a scheduler are stuck or unfinished.
 ghost use Rattle.std.specs.Prelude.{◌≡◌, IfNone, IfSome};
 ghost use Rattle.describe.specs.Losses.{losses_of, warned_in};
-ghost use Rattle.describe.specs.Warnings.{IsWarning};
+ghost use Rattle.describe.specs.LossWarnings.{IsLossWarning};
 
 use crate::losses::{Beside, Loss, greatest_loss, warned_beside, warned_rows};
 use crate::shares::Share;
@@ -16,25 +16,25 @@ const MEANING: &str = "stuck: no change was possible any more; \
 // How many of the schedulers have more than 1 % of their runs stuck or unfinished, and which has
 // the most.
 #[derive(Clone, Copy)]
-pub(crate) struct Warning {
+pub(crate) struct LossWarning {
     pub warned: usize,
     pub schedulers: usize,
     pub worst: Loss,
     pub runs: u32,
 }
 
-impl Warning {
+impl LossWarning {
     // The warning that is due, if one is.
-    pub(crate) fn of(rows: &[BatchRow], beside: &[Beside], runs: u32) -> Option<Warning>
+    pub(crate) fn of(rows: &[BatchRow], beside: &[Beside], runs: u32) -> Option<LossWarning>
         ensures none { IfNone result (warned_in runs (losses_of rows.now beside.now) ≡ 0) }
-        ensures so { IfSome result (IsWarning runs (losses_of rows.now beside.now)) }
+        ensures so { IfSome result (IsLossWarning runs (losses_of rows.now beside.now)) }
     {
         let warned = warned_rows(rows, runs) + warned_beside(beside, runs);
         let worst = greatest_loss(rows, beside)?;
         if warned == 0 {
             return None;
         }
-        Some(Warning {
+        Some(LossWarning {
             warned,
             schedulers: rows.len() + beside.len(),
             worst,
@@ -43,9 +43,9 @@ impl Warning {
     }
 }
 
-impl fmt::Display for Warning {
+impl fmt::Display for LossWarning {
     fn fmt<W: fmt::Write>(&self, f: &mut fmt::Formatter<W>) -> fmt::Result {
-        let Warning {
+        let LossWarning {
             warned,
             schedulers,
             worst,
