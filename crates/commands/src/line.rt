@@ -93,6 +93,15 @@ fn row<'a>(heap: Global) -> Arg<'a> {
     )
 }
 
+// An option by which numbers are printed, whatever names a plan has.
+fn plain<'a>(heap: Global) -> Arg<'a> {
+    flag(
+        heap,
+        "plain",
+        "print numbers, whatever names a plan has, for scripts",
+    )
+}
+
 // `batch`: many sampled schedulers.
 fn batch<'a>(heap: Global) -> Result<Command<'a>, AllocError> {
     let command = Command::new(heap, "batch")
@@ -187,7 +196,8 @@ fn run<'a>(heap: Global) -> Result<Command<'a>, AllocError> {
             "N",
             "make at most so many steps, 1 to 10000 [default: 100]",
         ))?
-        .arg(row(heap))?;
+        .arg(row(heap))?
+        .arg(plain(heap))?;
     with_draws(heap, command)
 }
 
@@ -202,11 +212,7 @@ fn replay<'a>(heap: Global) -> Result<Command<'a>, AllocError> {
         .arg(plan(heap))?
         .arg(calls)?
         .arg(row(heap))?
-        .arg(flag(
-            heap,
-            "plain",
-            "print numbers, whatever names a plan has, for scripts",
-        ))?;
+        .arg(plain(heap))?;
     with_draws(heap, command)
 }
 

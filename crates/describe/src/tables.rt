@@ -1,7 +1,7 @@
 // Batches as tables, with shares in percent.
+use crate::loss_warning::LossWarning;
 use crate::losses::Beside;
 use crate::shares::{HalfWidth, Share};
-use crate::loss_warning::LossWarning;
 use batch::BatchRow;
 use batch::ranking::{fewest_reached, most_reached};
 use std::fmt;
