@@ -1,5 +1,6 @@
 pub mod Besides
 pub mod Files
+pub mod Openings
 pub mod Options
 pub mod Replays
 pub mod Sources

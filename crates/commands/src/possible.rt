@@ -1,9 +1,9 @@
 // What may happen first: the changes of stage 0 that are possible with all timers at zero.
 ghost use Rattle.std.specs.Prelude.{◌≡◌, ◌∷◌, [], map, IfOk};
 ghost use Rattle.run.specs.Calls.{entry_of};
-ghost use Rattle.runs.specs.Runs.{Offers, opening, told_of};
 ghost use Rattle.runs.specs.Tables.{plan_in};
 ghost use Rattle.commands.specs.Files.{rows_read};
+ghost use Rattle.commands.specs.Openings.{shown_at_opening};
 
 use crate::failure::Failure;
 use crate::files::PlanFile;
@@ -35,15 +35,22 @@ fn print_opening(rt: &HostRuntime, entry: &Entry) -> anyhow::Result<()> {
     Ok(())
 }
 
-// Says what may happen first on the plan of a file.
-fn print_first(rt: &HostRuntime, path: &str) -> anyhow::Result<()> {
-    let file = PlanFile::open(rt, path)?;
-    // Nothing is drawn where a run opens.
+// What a run on the plan of a file shows where it opens. Nothing is drawn there, so any draws serve.
+fn shown_first(rt: &HostRuntime, file: &PlanFile) -> anyhow::Result<Vec<Entry>>
+    ensures { let plan = plan_in (rows_read file.now) in
+        IfOk result (λ entries. map entry_of entries.items ≡ shown_at_opening plan ∷ []) }
+{
     let draws = Draws::Seed {
         rule: Rule::Mixed,
         seed: 0,
     };
-    for entry in entries_of(rt, &file, &draws, 0, &[Call::Offers])?.iter() {
+    entries_of(rt, file, &draws, 0, &[Call::Offers])
+}
+
+// Says what may happen first on the plan of a file.
+fn print_first(rt: &HostRuntime, path: &str) -> anyhow::Result<()> {
+    let file = PlanFile::open(rt, path)?;
+    for entry in shown_first(rt, &file)?.iter() {
         print_opening(rt, entry)?;
     }
     Ok(())
