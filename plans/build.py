@@ -222,8 +222,16 @@ STATION_BUS = station(BOTH, NONE, [at_most(BUS, 20)])
 # How often does the walk signal show within 30 s of the call?
 STATION_CALL = station(NONE, BOTH, [at_most(CALL, 30)])
 
-here = os.path.dirname(os.path.abspath(__file__))
-for name, data in [('example', EXAMPLE), ('crossing', CROSSING),
-                   ('station-bus', STATION_BUS), ('station-call', STATION_CALL)]:
+
+# Writes a plan to this folder.
+def write(name, data):
+    here = os.path.dirname(os.path.abspath(__file__))
     with open(os.path.join(here, name + '.plan'), 'wb') as f:
         f.write(data)
+
+
+if __name__ == '__main__':
+    write('example', EXAMPLE)
+    write('crossing', CROSSING)
+    write('station-bus', STATION_BUS)
+    write('station-call', STATION_CALL)
