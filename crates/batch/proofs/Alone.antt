@@ -4,7 +4,7 @@ use Rattle.std.proofs.lemmas.List.Sums.{sum_by-cons}
 use Rattle.runs.specs.Plans.{Plan}
 use Rattle.runs.specs.Runs.{Draws, Run, Scheduler, opening, step_call}
 use Rattle.schedulers.specs.Meanings.{sampled_by}
-use Rattle.batch.specs.Batches.{Book, Made, Progress, counted, first_runs, none_yet, one_more, one_row, row_of, run_from, stepped}
+use Rattle.batch.specs.Batches.{Book, Made, Progress, counted, first_runs, none_yet, one_more, one_row, row_with, run_from, stepped}
 use Rattle.batch.specs.Promised.{ABatchWithoutABindingAllowanceCountsEachRunByItself, AnAllowanceThatDoesNotBindCountsEachRunByItself, granted_to, row_alone, standing_so, tally_alone}
 use Rattle.batch.specs.declared.BatchRow.{BatchRow}
 use Rattle.batch.specs.declared.Limits.{Limits}
@@ -80,7 +80,7 @@ rows_alone plan book limits m (id ∷ ids) l =
     let first = runs_alone plan book m.coming (sampled_by id) limits.steps limits.runs m.left (omega arith) in
     let row : BatchRow = row_alone plan book limits.steps limits.runs id in
     let rest = rows_alone plan book limits (one_row plan book limits m id) ids (omega (arith, first.its_left)) in
-    rest ∙ (ap (λ (t : Tally). (m.rows ++ row_of id t ∷ []) ++ map (row_alone plan book limits.steps limits.runs) ids) first.its_tally ∙ append_assoc m.rows (row ∷ []) (map (row_alone plan book limits.steps limits.runs) ids))
+    rest ∙ (ap (λ (t : Tally). (m.rows ++ row_with id t ∷ []) ++ map (row_alone plan book limits.steps limits.runs) ids) first.its_tally ∙ append_assoc m.rows (row ∷ []) (map (row_alone plan book limits.steps limits.runs) ids))
 
 -- and all rows of a batch
 pub counts_each_by_itself : (plan : Plan) (book : Book) (draws : Draws) (limits : Limits) (ids : List ℕ) → ABatchWithoutABindingAllowanceCountsEachRunByItself plan book draws limits ids

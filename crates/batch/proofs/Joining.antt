@@ -7,7 +7,7 @@ use Rattle.runs.specs.Plans.{Plan}
 use Rattle.runs.specs.Runs.{Draws}
 use Rattle.schedulers.specs.Meanings.{sampled_by}
 use Rattle.logs.specs.declared.Log.{Log}
-use Rattle.batch.specs.Batches.{Book, Joined, Made, Progress, all_made, first_runs, none_yet, one_row, row_of}
+use Rattle.batch.specs.Batches.{Book, Joined, Made, Progress, all_made, first_runs, none_yet, one_row, row_with}
 use Rattle.batch.specs.Progresses.{Entered}
 use Rattle.batch.specs.declared.BatchRow.{BatchRow}
 use Rattle.batch.specs.declared.Limits.{Limits}
@@ -25,7 +25,7 @@ rows_from : (plan : Plan) (book : Book) (limits : Limits) (m : Made) (ids : List
 rows_from plan book limits m [] = omega arith
 rows_from plan book limits m (id ∷ ids) =
     let p : Progress = first_runs plan book (sampled_by id) limits.steps limits.runs (none_yet m.left m.coming) in
-    omega (arith, rows_from plan book limits (one_row plan book limits m id) ids, length-append m.rows (row_of id p.tally ∷ []))
+    omega (arith, rows_from plan book limits (one_row plan book limits m id) ids, length-append m.rows (row_with id p.tally ∷ []))
 
 -- a batch has as many rows as identifiers
 pub rows_made : (plan : Plan) (book : Book) (draws : Draws) (limits : Limits) (ids : List ℕ) → length (all_made plan book draws limits ids).rows ≡ length ids
@@ -39,7 +39,7 @@ entered_then plan book limits made id log₀ log₁ log₂ left left' draws draw
     let runs : ℕ → Draws → Progress = λ l d. first_runs plan book (sampled_by id) limits.steps limits.runs (none_yet l d) in
     let same : runs left draws ≡ runs made.left made.coming = λ i. runs (h.allowance i) (h.draws i) in
     record {
-      joined = subst (λ (p : Progress). Joined (made.rows ++ row_of id p.tally ∷ []) log₀ log₂) same (joined_then made.rows (row_of id (runs left draws).tally ∷ []) log₀ log₁ log₂ h.joined k.joined);
+      joined = subst (λ (p : Progress). Joined (made.rows ++ row_with id p.tally ∷ []) log₀ log₂) same (joined_then made.rows (row_with id (runs left draws).tally ∷ []) log₀ log₁ log₂ h.joined k.joined);
       allowance = k.allowance ∙ ap (λ (p : Progress). p.left) same;
       draws = k.draws ∙ ap (λ (p : Progress). p.coming) same;
     }

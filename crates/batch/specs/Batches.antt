@@ -66,8 +66,8 @@ runs_made plan book draws limits f =
     first_runs plan book f limits.steps limits.runs (none_yet limits.allowance draws)
 
 -- the row of an identifier whose runs come to this tally
-abbrev pub row_of : ℕ → Tally → BatchRow
-row_of id t =
+abbrev pub row_with : ℕ → Tally → BatchRow
+row_with id t =
     record { identifier = id; reached = t.reached; failed = t.failed; stuck = t.stuck; unfinished = t.unfinished }
 
 -- the tally in a row
@@ -85,7 +85,7 @@ pub record Made : Type 0 where
 abbrev pub one_row : Plan → Book → Limits → Made → ℕ → Made
 one_row plan book limits m id =
     let p : Progress = first_runs plan book (sampled_by id) limits.steps limits.runs (none_yet m.left m.coming) in
-    record { rows = m.rows ++ row_of id p.tally ∷ []; left = p.left; coming = p.coming }
+    record { rows = m.rows ++ row_with id p.tally ∷ []; left = p.left; coming = p.coming }
 
 -- all runs of all identifiers, in their order
 abbrev pub all_made : Plan → Book → Draws → Limits → List ℕ → Made

@@ -7,7 +7,7 @@ use Rattle.runs.specs.Telling.{AllGranted, TellATickRun}
 use Rattle.runs.specs.declared.Standing.{Standing}
 use Rattle.runs.specs.declared.Standing.TheVariants.{Open, Reached, Failed, Stuck}
 use Rattle.schedulers.specs.Meanings.{sampled_by}
-use Rattle.batch.specs.Batches.{Book, all_made, counting, row_of, run_from, runs_made, tally_of}
+use Rattle.batch.specs.Batches.{Book, all_made, counting, row_with, run_from, runs_made, tally_of}
 use Rattle.batch.specs.declared.BatchRow.{BatchRow}
 use Rattle.batch.specs.declared.Limits.{Limits}
 use Rattle.batch.specs.declared.tally.Tally.{Tally}
@@ -29,7 +29,7 @@ TheFourCountsOfASchedulerSumToTheRuns plan book draws limits f =
 -- a sampled scheduler comes to the row that a batch of its identifier alone has
 abbrev pub ASampledSchedulerComesToItsRow : Plan → Book → Draws → Limits → Scheduler → Type 0
 ASampledSchedulerComesToItsRow plan book draws limits f =
-    (id : ℕ) → f ≡ sampled_by id → (all_made plan book draws limits (id ∷ [])).rows ≡ row_of id (runs_made plan book draws limits f).tally ∷ []
+    (id : ℕ) → f ≡ sampled_by id → (all_made plan book draws limits (id ∷ [])).rows ≡ row_with id (runs_made plan book draws limits f).tally ∷ []
 
 -- how many of a scheduler's runs that start rows 0 to n - 1, each with the step limit alone, stand in one way
 unfoldable pub standing_so : Plan → Book → Scheduler → ℕ → ℕ → Standing → ℕ
@@ -50,7 +50,7 @@ tally_alone plan book f steps n =
 
 -- the row of an identifier whose n runs have the step limit alone
 abbrev pub row_alone : Plan → Book → ℕ → ℕ → ℕ → BatchRow
-row_alone plan book steps n id = row_of id (tally_alone plan book (sampled_by id) steps n)
+row_alone plan book steps n id = row_with id (tally_alone plan book (sampled_by id) steps n)
 
 -- where the allowance covers the steps of all runs, each with the step limit alone, every identifier has the row that it has alone
 abbrev pub ABatchWithoutABindingAllowanceCountsEachRunByItself : Plan → Book → Draws → Limits → List ℕ → Type 0

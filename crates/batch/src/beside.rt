@@ -1,7 +1,10 @@
 // One scheduler beside a batch, with the runs that an identifier of the batch has.
 ghost use Rattle.std.specs.Prelude.{◌≡◌, true, is_err};
 ghost use Rattle.batch.specs.Batches.{Tallied};
-ghost use Rattle.batch.specs.Promised.{ASampledSchedulerComesToItsRow, AnAllowanceThatDoesNotBindCountsEachRunByItself, EveryRunOfABatchTellsATickRun, TheFourCountsOfASchedulerSumToTheRuns};
+ghost use Rattle.batch.specs.Promised.{ASampledSchedulerComesToItsRow};
+ghost use Rattle.batch.specs.Promised.{AnAllowanceThatDoesNotBindCountsEachRunByItself};
+ghost use Rattle.batch.specs.Promised.{EveryRunOfABatchTellsATickRun};
+ghost use Rattle.batch.specs.Promised.{TheFourCountsOfASchedulerSumToTheRuns};
 ghost use Rattle.offers.specs.Checked.{checked};
 ghost use Rattle.runs.specs.Tables.{plan_in};
 

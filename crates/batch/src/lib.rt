@@ -1,5 +1,5 @@
-// Batches: many runs of sampled schedulers, and what they come to. Beside them, the same runs by any
-// one scheduler.
+// Batches: many runs of sampled schedulers, and what they come to. Beside them, the same runs by
+// any one scheduler.
 #![tactic(auto)]
 
 ghost use Rattle.std.specs.Prelude.{◌≡◌, true, is_err};

@@ -1,6 +1,6 @@
 // What some runs come to.
 ghost use Rattle.std.specs.Prelude.{◌≡◌, ◌<◌};
-ghost use Rattle.batch.specs.Batches.{counted, row_of, tally_of};
+ghost use Rattle.batch.specs.Batches.{counted, row_with, tally_of};
 ghost use Rattle.batch.specs.Promised.{runs_in};
 
 use crate::BatchRow;
@@ -33,7 +33,7 @@ impl Tally {
 impl BatchRow {
     // The row of an identifier whose runs come to a tally.
     pub(crate) fn of(identifier: u32, tally: Tally) -> BatchRow
-        ensures { result ≡ row_of identifier tally }
+        ensures { result ≡ row_with identifier tally }
     {
         BatchRow {
             identifier,

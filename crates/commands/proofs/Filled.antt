@@ -8,7 +8,7 @@ use Rattle.rows.specs.declared.refusal.Refusal.{Refusal}
 use Rattle.runs.specs.Plans.{Plan}
 use Rattle.runs.specs.Runs.{Draws}
 use Rattle.schedulers.specs.Meanings.{sampled_by}
-use Rattle.batch.specs.Batches.{Batched, Book, Made, Progress, all_made, first_runs, none_yet, one_row, refusal_of, row_of}
+use Rattle.batch.specs.Batches.{Batched, Book, Made, Progress, all_made, first_runs, none_yet, one_row, refusal_of, row_with}
 use Rattle.batch.specs.declared.BatchRow.{BatchRow}
 use Rattle.batch.specs.declared.Limits.{Limits}
 
@@ -17,7 +17,7 @@ rows_from : (plan : Plan) (book : Book) (limits : Limits) (m : Made) (ids : List
 rows_from plan book limits m [] = omega arith
 rows_from plan book limits m (id ∷ ids) =
     let p : Progress = first_runs plan book (sampled_by id) limits.steps limits.runs (none_yet m.left m.coming) in
-    omega (arith, rows_from plan book limits (one_row plan book limits m id) ids, length-append m.rows (row_of id p.tally ∷ []))
+    omega (arith, rows_from plan book limits (one_row plan book limits m id) ids, length-append m.rows (row_with id p.tally ∷ []))
 
 -- the rows of a batch fill rows that are as many as its identifiers; where it is refused they stay
 pub rows_filled : (plan : Plan) (book : Book) (draws left : Draws) (limits : Limits) (ids : List ℕ) (log log' : Log BatchRow) (r : Result (Unit {0}) Refusal) →

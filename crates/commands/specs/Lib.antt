@@ -1,4 +1,3 @@
-pub mod Besides
 pub mod Files
 pub mod Openings
 pub mod Options

@@ -1,9 +1,10 @@
 // Runs many sampled schedulers and tells how often each reached the goal.
-ghost use Rattle.std.specs.Prelude.{◌≡◌, length, Some, None, IfOk, MatchResult};
+ghost use Rattle.std.specs.Prelude.{◌≡◌, codes, length, Some, None, IfOk, MatchResult};
 ghost use Rattle.batch.specs.Batches.{all_made, refusal_of, runs_made};
 ghost use Rattle.describe.specs.Losses.{chooser_of};
 ghost use Rattle.schedulers.specs.Choosers.{meaning_of};
-ghost use Rattle.commands.specs.Besides.{beside_in};
+ghost use Rattle.commands.specs.Options.{said};
+ghost use Rattle.std.specs.Option.{option_map};
 ghost use Rattle.draws.specs.Either.{book_of, coming_of};
 ghost use Rattle.offers.specs.Checked.{checked};
 ghost use Rattle.runs.specs.Tables.{plan_in};
@@ -17,7 +18,6 @@ use crate::options::{Options, file_of};
 use crate::sources::Draws;
 use anyhow::anyhow;
 use batch::beside::runs_by;
-use batch::tally::Tally;
 use batch::watch::Watch;
 use batch::{BatchRow, Limits, batch};
 use clap::ArgMatches;
@@ -29,7 +29,6 @@ use draws::either::Source;
 use logs::Log;
 use plan::handed::Handed;
 use rows::refusal::Refusal;
-use schedulers::chooser::Chooser;
 use std::fs;
 use std::num::NonZeroUsize;
 
@@ -92,34 +91,34 @@ fn fill_rows(
     batch(handed, source, identifiers, limits, &mut log, &mut watch)
 }
 
-// The rows of all identifiers, on the plan of a file and with the draws that were asked for.
+// The rows of all identifiers of the options, on the plan of a file and with the draws that were
+// asked for.
 fn rows_of(
     rt: &HostRuntime,
     file: &PlanFile,
     draws: &Draws<Vec<u32>>,
-    identifiers: &[u32],
-    limits: Limits,
+    options: &Options,
 ) -> anyhow::Result<Vec<BatchRow>>
     ensures { let book = book_asked draws.now in
-        let made = all_made (plan_in (rows_read file.now)) book (book 0) limits identifiers.now in
-        let n = length identifiers.now in
+        let ids = options.now.identifiers.items in
+        let limits = options.now.limits in
+        let made = all_made (plan_in (rows_read file.now)) book (book 0) limits ids in
+        let n = length ids in
         IfOk result (λ rows. (refusal_of n limits n ≡ None) × (rows.items ≡ made.rows)) }
 {
+    let identifiers = &options.identifiers;
     let mut rows = vec![in rt.alloc(); BatchRow::default(); identifiers.len()]?;
     let handed = file.handed();
     let mut source = draws.source_at(0);
-    fill_rows(rt, handed, &mut source, identifiers, limits, &mut rows)?;
+    fill_rows(
+        rt,
+        handed,
+        &mut source,
+        identifiers,
+        options.limits,
+        &mut rows,
+    )?;
     Ok(rows)
-}
-
-// The scheduler of a name.
-fn chooser(name: Named) -> Chooser
-    ensures { result ≡ chooser_of name }
-{
-    match name {
-        Named::Earliest => Chooser::Earliest,
-        Named::Latest => Chooser::Latest,
-    }
 }
 
 // What a scheduler that is not sampled comes to in the runs that each identifier has, with an
@@ -132,26 +131,13 @@ fn beside_of(
 ) -> Result<Beside, Refusal>
     ensures { let book = book_asked draws.now in
         let made = runs_made (plan_in (rows_read file.now)) book (book 0) limits in
-        IfOk result (λ b. b ≡ beside_in name (made (meaning_of (chooser_of name))).tally) }
+        let tally = (made (meaning_of (chooser_of name))).tally in
+        MatchResult result (λ b. b ≡ record { name = name; tally = tally })
+        (λ e. refusal_of 1 limits 1 ≡ Some e) }
 {
-    let Tally {
-        reached,
-        failed,
-        stuck,
-        unfinished,
-    } = runs_by(
-        file.handed(),
-        &mut draws.source_at(0),
-        &chooser(name),
-        limits,
-    )?;
-    Ok(Beside {
-        name,
-        reached,
-        failed,
-        stuck,
-        unfinished,
-    })
+    let mut source = draws.source_at(0);
+    let tally = runs_by(file.handed(), &mut source, &name.chooser(), limits)?;
+    Ok(Beside { name, tally })
 }
 
 // How a batch is printed: its counts alone, or with shares; beside other schedulers; to a file too.
@@ -163,7 +149,10 @@ struct Shown<'a> {
 }
 
 impl<'a> Shown<'a> {
-    fn of(given: &ArgMatches<'a>) -> Shown<'a> {
+    // As the options of a batch say.
+    fn of(given: &ArgMatches<'a>) -> Shown<'a>
+        ensures csv { option_map (λ s. s.now) result.csv ≡ said given.now (codes "csv") }
+    {
         Shown {
             is_plain: given.get_flag("plain"),
             has_beside: given.get_flag("earliest-latest"),
@@ -179,17 +168,41 @@ fn write_csv(rt: &HostRuntime, path: &str, rows: &[BatchRow], runs: u32) -> anyh
     Ok(())
 }
 
-// Prints the rows of a batch as a table, with what other schedulers come to if that is asked for.
-fn print_table(
+// What the earliest and the latest scheduler come to.
+fn both_beside(
+    file: &PlanFile,
+    draws: &Draws<Vec<u32>>,
+    limits: Limits,
+) -> Result<[Beside; 2], Refusal> {
+    Ok([
+        beside_of(file, draws, Named::Earliest, limits)?,
+        beside_of(file, draws, Named::Latest, limits)?,
+    ])
+}
+
+// Prints the rows of a batch, as it is to be shown.
+fn print_rows(
     rt: &HostRuntime,
     file: &PlanFile,
     draws: &Draws<Vec<u32>>,
     limits: Limits,
     rows: &[BatchRow],
-    has_beside: bool,
+    shown: Shown<'_>,
 ) -> anyhow::Result<()> {
     let runs = limits.runs;
-    if !has_beside {
+    if shown.is_plain {
+        print!(rt; "{}", ShownBatch { rows, runs })?;
+    } else if shown.has_beside {
+        let beside = both_beside(file, draws, limits)?;
+        print!(rt;
+            "{}",
+            BatchTable {
+                rows,
+                beside: &beside,
+                runs
+            }
+        )?;
+    } else {
         print!(rt;
             "{}",
             BatchTable {
@@ -198,48 +211,36 @@ fn print_table(
                 runs
             }
         )?;
-        return Ok(());
     }
-    let beside = [
-        beside_of(file, draws, Named::Earliest, limits)?,
-        beside_of(file, draws, Named::Latest, limits)?,
-    ];
-    print!(rt;
-        "{}",
-        BatchTable {
-            rows,
-            beside: &beside,
-            runs
-        }
-    )?;
     Ok(())
 }
 
-// Runs a batch and prints its rows, and the best and the worst of them.
+// Runs a batch and prints its rows, and writes them to a file if that is asked for.
 fn print_batch(
     rt: &HostRuntime,
     path: &str,
-    options: Options,
+    options: &Options,
     shown: Shown<'_>,
 ) -> anyhow::Result<()> {
     let file = PlanFile::open(rt, path)?;
     let draws = options.draws.load(rt)?;
     let limits = options.limits;
-    let runs = limits.runs;
-    let rows = rows_of(rt, &file, &draws, &options.identifiers, limits)?;
-    if let Some(csv) = shown.csv {
-        write_csv(rt, csv, &rows, runs)?;
+    let rows = rows_of(rt, &file, &draws, options)?;
+    print_rows(rt, &file, &draws, limits, &rows, shown)?;
+    match shown.csv {
+        Some(csv) => write_csv(rt, csv, &rows, limits.runs),
+        None => Ok(()),
     }
-    if shown.is_plain {
-        print!(rt; "{}", ShownBatch { rows: &rows, runs })?;
-        return Ok(());
-    }
-    print_table(rt, &file, &draws, limits, &rows, shown.has_beside)
 }
 
-// Runs a batch.
+// Runs a batch. The file of its rows is not the plan's.
 pub fn run_batch(rt: &HostRuntime, given: &ArgMatches<'_>) -> Result<(), Failure> {
     let options = Options::of(rt.alloc(), Command::Batch, given).map_err(Failure::Words)?;
-    print_batch(rt, file_of(given, "PLAN"), options, Shown::of(given))?;
+    let plan = file_of(given, "PLAN");
+    let shown = Shown::of(given);
+    if shown.csv == Some(plan) || shown.csv.is_some() && shown.csv == given.get_str("tape") {
+        return Err(Failure::Words(anyhow!("--csv would write over a file that is read")));
+    }
+    print_batch(rt, plan, &options, shown)?;
     Ok(())
 }

@@ -1,7 +1,8 @@
 // What a plan file says.
 ghost use Rattle.std.specs.Prelude.{IfOk};
 ghost use Rattle.runs.specs.Tables.{plan_in};
-ghost use Rattle.warnings.specs.Promised.{AStageWarnedAsWithoutAWayOutOffersNothing, AStageWithoutChangesIsWarned};
+ghost use Rattle.warnings.specs.Promised.{AStageWarnedAsWithoutAWayOutOffersNothing};
+ghost use Rattle.warnings.specs.Promised.{AStageWithoutChangesIsWarned};
 ghost use Rattle.warnings.specs.Promised.{WhereNothingIsWarnedTheHoldEndsBeforeTheCeiling};
 ghost use Rattle.commands.specs.Files.{rows_read};
 
@@ -18,12 +19,13 @@ use warnings::{Warning, warnings};
 
 // The warnings of the plan of a file.
 fn warnings_of(heap: Global, file: &PlanFile) -> Result<Vec<Warning>, AllocError>
-    ensures no_false_comfort { IfOk result (λ found.
-        WhereNothingIsWarnedTheHoldEndsBeforeTheCeiling (plan_in (rows_read file.now)) found.items) }
-    ensures no_false_dead_end { IfOk result (λ found.
-        AStageWarnedAsWithoutAWayOutOffersNothing (plan_in (rows_read file.now)) found.items) }
-    ensures no_missed_dead_end { IfOk result (λ found.
-        AStageWithoutChangesIsWarned (plan_in (rows_read file.now)) found.items) }
+    ensures where_nothing_is_warned_the_hold_ends_before_the_ceiling { let plan = plan_in (rows_read file.now) in
+        IfOk result (λ found.
+        WhereNothingIsWarnedTheHoldEndsBeforeTheCeiling plan found.items) }
+    ensures a_stage_warned_as_without_a_way_out_offers_nothing { let plan = plan_in (rows_read file.now) in
+        IfOk result (λ found. AStageWarnedAsWithoutAWayOutOffersNothing plan found.items) }
+    ensures a_stage_without_changes_is_warned { let plan = plan_in (rows_read file.now) in
+        IfOk result (λ found. AStageWithoutChangesIsWarned plan found.items) }
 {
     warnings(heap, Plan::of_tables(file.handed()))
 }

@@ -1,4 +1,6 @@
 // Why a command was not carried out.
+ghost use Rattle.std.specs.Prelude.{◌≤◌};
+
 use std::alloc::AllocError;
 use std::io;
 
@@ -35,9 +37,11 @@ impl From<AllocError> for Failure {
 }
 
 impl Failure {
-    // Tells it, and answers the status with which the program ends. Help goes to standard output, and
-    // has the status 0.
-    pub fn told(&self, rt: &HostRuntime) -> u8 {
+    // Tells it, and answers the status with which the program ends. Help goes to standard output,
+    // and has the status 0.
+    pub fn told(&self, rt: &HostRuntime) -> u8
+        ensures { result ≤ 2 }
+    {
         match self {
             Failure::Line(error) => {
                 let _ = error.print(rt);

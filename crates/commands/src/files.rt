@@ -8,7 +8,7 @@ ghost use Rattle.rows.specs.Verdicts.{faultless};
 
 use anyhow::anyhow;
 use describe::faults::Refused;
-use describe::kinds::plainly_no_plan;
+use describe::kinds::{NoPlan, plainly_no_plan};
 use plan::handed::{Handed, Tables};
 use plan::records::Records;
 use reader::owned::OwnedTables;
@@ -27,21 +27,15 @@ pub struct PlanFile {
 impl PlanFile {
     ghost use Rattle.commands.specs.Files.{FileOf, ReadAs, rows_read};
 
-    // Reads a plan file: what it answers is the plan of some bytes, and no contract can say that they
-    // are those of the path. The rule that a refused one breaks is printed, and what it plainly is.
+    // Reads a plan file: what it answers is the plan of some bytes, and no contract can say that
+    // they are those of the path. The rule that a refused one breaks is printed, unless it is a text.
     pub fn open(rt: &HostRuntime, path: &str) -> anyhow::Result<PlanFile>
         ensures { IfOk result (λ file. (bytes : List ℕ) × FileOf bytes (rows_read file)) }
     {
         let bytes = fs::read(rt, path).map_err(|e| anyhow!("cannot read {path}: {e}"))?;
         match PlanFile::of_bytes(rt.alloc(), &bytes)? {
             Ok(file) => Ok(file),
-            Err(fault) => {
-                println!(rt; "{}", Refused(fault))?;
-                Err(match plainly_no_plan(&bytes) {
-                    Some(kind) => anyhow!("{path} is no plan file: {kind}"),
-                    None => anyhow!("the plan is refused"),
-                })
-            }
+            Err(fault) => Err(refused(rt, path, &bytes, fault)?),
         }
     }
 
@@ -80,6 +74,24 @@ impl PlanFile {
     {
         self.rows.view()
     }
+}
+
+// What is said of a file that is refused. The rule that it breaks is what was asked for, so it goes
+// to standard output; a text breaks none of a plan's.
+fn refused(
+    rt: &HostRuntime,
+    path: &str,
+    bytes: &[u8],
+    fault: Fault,
+) -> anyhow::Result<anyhow::Error> {
+    let kind = plainly_no_plan(bytes);
+    if kind != Some(NoPlan::Text) {
+        println!(rt; "{}", Refused(fault))?;
+    }
+    Ok(match kind {
+        Some(kind) => anyhow!("{path} is no plan file: {kind}"),
+        None => anyhow!("the plan {path} is refused: {}", Refused(fault)),
+    })
 }
 
 // The text of a file.

@@ -1,6 +1,8 @@
 // The commands of the program: what is asked for on the command line, done and printed.
 #![tactic(auto)]
 
+ghost use Rattle.std.specs.Prelude.{◌≤◌};
+
 mod batches;
 mod check;
 mod command;
@@ -34,9 +36,11 @@ fn carried_out(rt: &HostRuntime, words: &[String]) -> Result<(), Failure> {
 }
 
 // Does what the words of a command line ask for, and tells on standard error where it fails.
-// Answers the status with which the program ends: 0, 1 where the work failed or was refused, 2 where
-// the words are wrong.
-pub fn answer(rt: &HostRuntime, words: &[String]) -> u8 {
+// Answers the status with which the program ends: 0, 1 where the work failed or was refused, 2
+// where the words are wrong.
+pub fn answer(rt: &HostRuntime, words: &[String]) -> u8
+    ensures { result ≤ 2 }
+{
     match carried_out(rt, words) {
         Ok(()) => 0,
         Err(failure) => failure.told(rt),
@@ -44,7 +48,9 @@ pub fn answer(rt: &HostRuntime, words: &[String]) -> u8 {
 }
 
 // Does what the program's own command line asks for, and answers its status likewise.
-pub fn answer_line(rt: &HostRuntime) -> u8 {
+pub fn answer_line(rt: &HostRuntime) -> u8
+    ensures { result ≤ 2 }
+{
     match given_words(rt) {
         Ok(words) => answer(rt, &words),
         Err(error) => Failure::Words(error).told(rt),

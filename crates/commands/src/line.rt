@@ -10,7 +10,8 @@ const EXAMPLES: &str = "examples:
   junction batch plans/crossing.plan --identifiers 0..99 --earliest-latest
   junction run plans/crossing.plan --scheduler latest --row 17
 
-A command ends with status 0; 1 where its work failed or was refused; 2 where its words are wrong.";
+A command ends with status 0; 1 where its work failed or a plan is refused; 2 where its words are
+wrong. A move or call that is refused is told, and is no failure.";
 
 // What the help on moves ends with.
 const MOVES: &str =
@@ -26,7 +27,8 @@ const CALLS: &str = "CALLS has a call a line: 'take CHANGE WAIT', 'step earliest
 const BATCHES: &str =
     "Run J of each scheduler, from 0, draws from row J of the source, and can be looked at by
 'junction run PLAN --scheduler IDENTIFIER --row J --steps 1000' with the same source.
-The best and the worst are those of the schedulers tried, and of no other.";
+The best and the worst are those of the sampled schedulers tried, and of no other.
+The earliest and the latest have an allowance of their own.";
 
 // The plan file of a command.
 fn plan<'a>(heap: Global) -> Arg<'a> {
@@ -39,6 +41,7 @@ fn valued<'a>(heap: Global, name: &'a str, value: &'a str, help: &'a str) -> Arg
         .long(name)
         .value_name(value)
         .action(ArgAction::Set)
+        .allow_negative_numbers(true)
         .help(help)
 }
 
@@ -78,8 +81,7 @@ fn with_draws<'a>(heap: Global, command: Command<'a>) -> Result<Command<'a>, All
         "row-length",
         "N",
         "how many numbers a row of the tape has, 1 to 10000 [default: 10000]",
-    )
-    .requires_arg("tape")?;
+    );
     command.arg(seed)?.arg(source)?.arg(tape)?.arg(row_length)
 }
 
@@ -93,13 +95,9 @@ fn row<'a>(heap: Global) -> Arg<'a> {
     )
 }
 
-// An option by which numbers are printed, whatever names a plan has.
+// An option by which numbers alone are printed.
 fn plain<'a>(heap: Global) -> Arg<'a> {
-    flag(
-        heap,
-        "plain",
-        "print numbers, whatever names a plan has, for scripts",
-    )
+    flag(heap, "plain", "print numbers alone, for scripts")
 }
 
 // `batch`: many sampled schedulers.
@@ -171,6 +169,7 @@ fn regions<'a>(heap: Global) -> Result<Command<'a>, AllocError> {
     let moves = Arg::new(heap, "MOVE")
         .action(ArgAction::Append)
         .num_args(0..)
+        .allow_negative_numbers(true)
         .help("the moves, at most 10000");
     Command::new(heap, "regions")
         .about("Walks a plan's timers from zero by moves and prints each region")

@@ -1,8 +1,11 @@
 // The options of the commands that run a plan.
-ghost use Rattle.std.specs.Prelude.{◌≡◌, IfOk, codes};
+ghost use Rattle.std.specs.Prelude.{◌≡◌, ℕ, ◌≤◌, IfOk, IsSomeAnd, OnErr, codes};
 ghost use Rattle.std.specs.Option.{unwrap_or};
 ghost use Rattle.std.specs.Result.{result_ok};
 ghost use Rattle.describe.specs.Identifiers.{AllDiffer, Lists};
+ghost use Rattle.describe.specs.Names.{Names};
+ghost use Rattle.describe.specs.Words.{Writes};
+ghost use Rattle.schedulers.specs.declared.chooser.Chooser.{Chooser};
 ghost use Rattle.commands.specs.Options.{DrawsFor, GoesBy, LimitsFor, ListFor, NumberFor};
 ghost use Rattle.commands.specs.Options.{NumberOr, RuleFor, SchedulerFor, draws_asked, said};
 
@@ -42,14 +45,16 @@ fn number_of(
     least: u32,
     most: u32,
 ) -> anyhow::Result<Option<u32>>
-    ensures { IfOk result (NumberFor least most (said given.now name.now)) }
+    ensures read { IfOk result (NumberFor least most (said given.now name.now)) }
+    ensures refused { OnErr result (IsSomeAnd (said given.now name.now)
+        (λ word. (n : ℕ) → Writes word n → least ≤ n → n ≤ most → ⊥)) }
 {
     let Some(word) = given.get_str(name) else {
         return Ok(None);
     };
     match number(word).filter(|n| (least..=most).contains(n)) {
         Some(n) => Ok(Some(n)),
-        None => Err(anyhow!("--{name} takes a number from {least} to {most}, not {word}")),
+        None => Err(anyhow!("--{name} takes a number from {least} to {most}, not '{word}'")),
     }
 }
 
@@ -68,27 +73,30 @@ fn number_or(
 
 // The scheduler that is asked for, or the earliest.
 fn scheduler_of(given: &ArgMatches<'_>) -> anyhow::Result<Chooser>
-    ensures { IfOk result (SchedulerFor (said given.now (codes "scheduler"))) }
+    ensures read { IfOk result (SchedulerFor (said given.now (codes "scheduler"))) }
+    ensures refused { OnErr result (IsSomeAnd (said given.now (codes "scheduler"))
+        (λ word. (s : Chooser) → Names word s → ⊥)) }
 {
     match given.get_str("scheduler") {
         None => Ok(Chooser::Earliest),
         Some(word) => named_scheduler(word).context(format_args!(
-            "--scheduler takes earliest, latest or an identifier, not {word}"
+            "--scheduler takes earliest, latest or an identifier, not '{word}'"
         )),
     }
 }
 
 // The identifiers that a word lists, none of them twice.
-fn listed(heap: Global, word: &str) -> anyhow::Result<Vec<u32>>
+fn listed_once(heap: Global, word: &str) -> anyhow::Result<Vec<u32>>
     ensures { IfOk result (λ ids. Lists word.now ids.items × AllDiffer ids.items) }
 {
     let Some(identifiers) = identifiers(heap, word)? else {
         return Err(anyhow!(
-            "--identifiers takes FIRST..LAST or a list as 3,5,8, at most {MOST_IDENTIFIERS} of them, not {word}"
+            "--identifiers takes FIRST..LAST or a list as 3,5,8, at most {} of them, not '{word}'",
+            MOST_IDENTIFIERS
         ));
     };
     match listed_twice(&identifiers) {
-        Some(twice) => Err(anyhow!("--identifiers lists {twice} twice: {word}")),
+        Some(twice) => Err(anyhow!("--identifiers lists {twice} twice: '{word}'")),
         None => Ok(identifiers),
     }
 }
@@ -99,19 +107,21 @@ fn identifiers_of(heap: Global, given: &ArgMatches<'_>) -> anyhow::Result<Vec<u3
 {
     match given.get_str("identifiers") {
         None => Ok((0..10).collect(heap)?),
-        Some(word) => listed(heap, word),
+        Some(word) => listed_once(heap, word),
     }
 }
 
 // The rule by which draws are computed, if one is given.
 fn rule_of(given: &ArgMatches<'_>) -> anyhow::Result<Option<Rule>>
-    ensures { IfOk result (RuleFor (said given.now (codes "source"))) }
+    ensures read { IfOk result (RuleFor (said given.now (codes "source"))) }
+    ensures refused { OnErr result (IsSomeAnd (said given.now (codes "source"))
+        (λ word. (word ≡ codes "mixed" → ⊥) × (word ≡ codes "computed" → ⊥))) }
 {
     match given.get_str("source") {
         None => Ok(None),
         Some("mixed") => Ok(Some(Rule::Mixed)),
         Some("computed") => Ok(Some(Rule::Computed)),
-        Some(word) => Err(anyhow!("--source takes mixed or computed, not {word}")),
+        Some(word) => Err(anyhow!("--source takes mixed or computed, not '{word}'")),
     }
 }
 

@@ -8,10 +8,11 @@ ghost use Rattle.commands.specs.Openings.{shown_at_opening};
 use crate::failure::Failure;
 use crate::files::PlanFile;
 use crate::options::file_of;
-use crate::replay::entries_of;
-use crate::sources::{Draws, Rule};
+use crate::replay::entries_at;
 use clap::ArgMatches;
 use describe::offered::OfferAtZero;
+use draws::either::Source;
+use draws::mixed::Mixed;
 use run::call::{Call, Entry, Reply};
 use runs::Standing;
 
@@ -35,16 +36,14 @@ fn print_opening(rt: &HostRuntime, entry: &Entry) -> anyhow::Result<()> {
     Ok(())
 }
 
-// What a run on the plan of a file shows where it opens. Nothing is drawn there, so any draws serve.
+// What a run on the plan of a file shows where it opens. Nothing is drawn there, so that any source
+// serves.
 fn shown_first(rt: &HostRuntime, file: &PlanFile) -> anyhow::Result<Vec<Entry>>
     ensures { let plan = plan_in (rows_read file.now) in
         IfOk result (λ entries. map entry_of entries.items ≡ shown_at_opening plan ∷ []) }
 {
-    let draws = Draws::Seed {
-        rule: Rule::Mixed,
-        seed: 0,
-    };
-    entries_of(rt, file, &draws, 0, &[Call::Offers])
+    let mut source = Source::Mixed(Mixed::new(0));
+    entries_at(rt, file, &mut source, &[Call::Offers])
 }
 
 // Says what may happen first on the plan of a file.

@@ -1,5 +1,5 @@
 // Makes the calls of a list and tells what each replies.
-ghost use Rattle.std.specs.Prelude.{◌≡◌, map, length, IfOk, IsOkAnd};
+ghost use Rattle.std.specs.Prelude.{◌≡◌, ◌≤◌, map, length, IfOk, IsOkAnd};
 ghost use Rattle.draws.specs.Either.{coming_of};
 ghost use Rattle.offers.specs.Checked.{checked};
 ghost use Rattle.run.specs.Calls.{calls_of, entry_of};
@@ -34,7 +34,8 @@ const MOST_CALLS: usize = 10_000;
 // The calls that the text of a file asks for, one to a line.
 // The path is told where a line is no call.
 fn calls_for(heap: Global, path: &str, text: &str) -> anyhow::Result<Vec<Call<Chooser>>>
-    ensures { IfOk result (λ calls. LinesAsk text.now calls.items) }
+    ensures asked { IfOk result (λ calls. LinesAsk text.now calls.items) }
+    ensures few { IfOk result (λ calls. length calls.items ≤ 10000) }
 {
     let mut calls = Vec::new(heap);
     for line in text.lines() {
@@ -65,33 +66,52 @@ fn fill_entries(
     replay(handed, source, calls, &mut log)
 }
 
-// The entry of each call of a list, on the plan of a file and with a row of the draws that were asked
-// for.
-pub fn entries_of(
+// The entry of each call of a list, on the plan of a file and with the draws to come of a source.
+pub fn entries_at(
     rt: &HostRuntime,
     file: &PlanFile,
-    draws: &Draws<Vec<u32>>,
-    row: u32,
+    source: &mut Source<'_>,
     calls: &[Call<Chooser>],
 ) -> anyhow::Result<Vec<Entry>>
     ensures { let plan = plan_in (rows_read file.now) in
-        let told = told_of plan (opening plan (book_asked draws.now row)) in
+        let told = told_of plan (opening plan (coming_of source.old)) in
         IfOk result (λ entries.
         map entry_of entries.items ≡ told (calls_of meaning_of calls.now)) }
 {
     let mut rows = vec![in rt.alloc(); Entry::blank(); calls.len()]?;
-    let mut source = draws.source_at(row);
-    fill_entries(file.handed(), &mut source, calls, &mut rows)?;
+    fill_entries(file.handed(), source, calls, &mut rows)?;
     Ok(rows)
 }
 
+// The entry of each call of a list, on the plan of a file and with the row of the draws that the
+// options name.
+pub fn entries_of(
+    rt: &HostRuntime,
+    file: &PlanFile,
+    draws: &Draws<Vec<u32>>,
+    options: &Options,
+    calls: &[Call<Chooser>],
+) -> anyhow::Result<Vec<Entry>>
+    ensures { let plan = plan_in (rows_read file.now) in
+        let told = told_of plan (opening plan (book_asked draws.now options.now.row)) in
+        IfOk result (λ entries.
+        map entry_of entries.items ≡ told (calls_of meaning_of calls.now)) }
+{
+    entries_at(rt, file, &mut draws.source_at(options.row), calls)
+}
+
 // Makes the calls of a file, and prints a line for each.
-fn print_replies(rt: &HostRuntime, plan: &str, path: &str, options: Options) -> anyhow::Result<()> {
+fn print_replies(
+    rt: &HostRuntime,
+    plan: &str,
+    path: &str,
+    options: &Options,
+) -> anyhow::Result<()> {
     let file = PlanFile::open(rt, plan)?;
     let text = text_of(rt, path)?;
     let calls = calls_for(rt.alloc(), path, text.as_str())?;
     let draws = options.draws.load(rt)?;
-    let entries = entries_of(rt, &file, &draws, options.row, &calls)?;
+    let entries = entries_of(rt, &file, &draws, options, &calls)?;
     for entry in entries.iter() {
         println!(rt; "{}", ShownEntry(entry))?;
     }
@@ -101,6 +121,11 @@ fn print_replies(rt: &HostRuntime, plan: &str, path: &str, options: Options) -> 
 // Makes the calls of a file.
 pub fn replay_file(rt: &HostRuntime, given: &ArgMatches<'_>) -> Result<(), Failure> {
     let options = Options::of(rt.alloc(), Command::Replay, given).map_err(Failure::Words)?;
-    print_replies(rt, file_of(given, "PLAN"), file_of(given, "CALLS"), options)?;
+    print_replies(
+        rt,
+        file_of(given, "PLAN"),
+        file_of(given, "CALLS"),
+        &options,
+    )?;
     Ok(())
 }

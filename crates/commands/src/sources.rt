@@ -44,17 +44,20 @@ impl Draws<String> {
     ghost use Rattle.commands.specs.Sources.{Loaded};
 
     // Reads the numbers of a tape; a seed needs no reading.
-    pub fn load(self, rt: &HostRuntime) -> anyhow::Result<Draws<Vec<u32>>>
-        ensures { IfOk result (Loaded self) }
+    pub fn load(&self, rt: &HostRuntime) -> anyhow::Result<Draws<Vec<u32>>>
+        ensures { IfOk result (Loaded self.now) }
     {
         match self {
-            Draws::Seed { rule, seed } => Ok(Draws::Seed { rule, seed }),
+            Draws::Seed { rule, seed } => Ok(Draws::Seed {
+                rule: *rule,
+                seed: *seed,
+            }),
             Draws::Tape {
                 numbers: path,
                 row_length,
             } => Ok(Draws::Tape {
                 numbers: numbers_in(rt, path.as_str())?,
-                row_length,
+                row_length: *row_length,
             }),
         }
     }

@@ -1,5 +1,5 @@
 // Walks a plan's timers through waits and resets, and prints the region after each.
-ghost use Rattle.std.specs.Prelude.{◌≡◌, ℕ, true, is_err, map, IfOk, MatchOption};
+ghost use Rattle.std.specs.Prelude.{◌≡◌, ℕ, ◌≤◌, true, is_err, length, map, IfOk, MatchOption};
 ghost use Rattle.region.specs.Viewed.{viewed};
 ghost use Rattle.commands.specs.Walks.{AskMove, AskMoves, NamesTimer, NamesTimers, moved};
 ghost use Rattle.commands.specs.Walks.{with_timer};
@@ -86,11 +86,13 @@ const MOST_MOVES: usize = 10_000;
 // The moves that words ask for, two words each. Words that ask for none are told with their place.
 #[tactic(auto, using(crate::proofs::Moves::one_move_more, crate::proofs::Moves::all_moves))]
 fn moves_for(heap: Global, words: &[&str]) -> anyhow::Result<Vec<Move>>
-    ensures { IfOk result (λ ms. AskMoves (map (λ w. w.now) words.now) ms.items) }
+    ensures asked { IfOk result (λ ms. AskMoves (map (λ w. w.now) words.now) ms.items) }
+    ensures few { IfOk result (λ ms. length ms.items ≤ 10000) }
 {
     let mut moves = Vec::new(heap);
-    if words.len() / 2 > MOST_MOVES {
-        return Err(anyhow!("a walk has at most {MOST_MOVES} moves"));
+    let many = words.len() / 2;
+    if many > MOST_MOVES {
+        return Err(anyhow!("a walk has at most {MOST_MOVES} moves, not {many}"));
     }
     for place in 0..words.len() / 2 {
         let name = words[2 * place];

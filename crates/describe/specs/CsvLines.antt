@@ -21,7 +21,7 @@ pub record TellRow (runs : ℕ) (row : BatchRow) (fields : List (List ℕ)) : Ty
   pub half_width_is : IsLeastHalfWidth runs half_width
   pub fields_are : fields ≡ decimal row.identifier ∷ decimal row.reached ∷ decimal row.failed ∷ decimal row.stuck ∷ decimal row.unfinished ∷ with_tenths share ∷ with_tenths half_width ∷ []
 
--- a line of fields with commas between them
+-- a line of fields, as the usual writer of comma-separated values writes it
 unfoldable pub line_of : List (List ℕ) → List ℕ
 line_of fields = row_text default_writer fields
 

@@ -1,5 +1,5 @@
 -- What a file plainly is that is no plan.
-use Rattle.std.specs.Prelude.{◌≡◌, ℕ, ◌<◌, Bool, ◌&&◌, ◌||◌, not, true, false, List, [], ◌==◌, length}
+use Rattle.std.specs.Prelude.{◌≡◌, ℕ, ◌<◌, ◌≤◌, Bool, ◌&&◌, ◌||◌, not, true, false, List, [], ◌==◌, length}
 use Rattle.std.specs.Char.{is_control}
 use Rattle.std.specs.List.{list_all}
 use Rattle.std.specs.Str.{chars, is_utf8}
@@ -18,4 +18,4 @@ is_plain_text bytes = is_utf8 bytes && list_all is_text_char (chars bytes)
 abbrev pub IsPlainly : List ℕ → NoPlan → Type 0
 IsPlainly bytes Empty = bytes ≡ []
 IsPlainly bytes (TooShort n) = (n ≡ length bytes) × (n < 28) × (is_plain_text bytes ≡ false)
-IsPlainly bytes Text = is_plain_text bytes ≡ true
+IsPlainly bytes Text = (1 ≤ length bytes) × (is_plain_text bytes ≡ true)

@@ -24,7 +24,7 @@ loss_of_row row = record { by = chooser.Sampled row.identifier; runs = row.stuck
 
 -- how many runs of a scheduler beside them are lost
 abbrev pub loss_beside : Beside → Loss
-loss_beside b = record { by = chooser_of b.name; runs = b.stuck + b.unfinished }
+loss_beside b = record { by = chooser_of b.name; runs = b.tally.stuck + b.tally.unfinished }
 
 -- what each scheduler loses: first the sampled ones, then those beside them
 abbrev pub losses_of : List BatchRow → List Beside → List Loss
@@ -45,5 +45,5 @@ IsGreatest losses most =
     MatchOption most (losses ≡ []) (λ l. (i : ℕ) × IsFirstBest loses_more losses (length losses) i × (slice_get losses i ≡ Some l))
 
 -- how many of the losses are of more than 1 in 100 of so many runs
-abbrev pub warned_in : ℕ → List Loss → ℕ
-warned_in runs losses = count_by (λ l. warns l.runs runs) losses
+abbrev pub warned_of : ℕ → List Loss → ℕ
+warned_of runs losses = count_by (λ l. warns l.runs runs) losses

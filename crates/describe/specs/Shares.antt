@@ -11,11 +11,11 @@ pub record IsShareOf (reached runs t : ℕ) : Type 0 where
   pub nearest : 1 ≤ runs → IsNearestTenth (min reached runs) runs t
   pub of_no_runs : runs ≡ 0 → t ≡ 0
 
--- with so many runs the share of one scheduler is off by t tenths of a percent or more at most 5 times out of 100 (Hoeffding's bound)
+-- of so many independent runs the share of one scheduler is off by t tenths of a percent or more at most 5 times out of 100 (Hoeffding's bound)
 abbrev pub AreEnough : ℕ → ℕ → Type 0
 AreEnough runs t = 1844440 ≤ runs * t * t
 
--- the least half-width that so many runs are enough for, or 100 %, which no share is off by
+-- the least half-width that so many runs are enough for, or 100 %, more than which no share is off by
 pub record IsLeastHalfWidth (runs t : ℕ) : Type 0 where
   pub enough : t < 1000 → AreEnough runs t
   pub least : (k : ℕ) → k < t → AreEnough runs k → ⊥

@@ -53,7 +53,7 @@ pub fn identifiers(heap: Global, word: &str) -> Result<Option<Vec<u32>>, AllocEr
 
 // The first identifier that also stands at an earlier place of the list, if one does.
 pub fn listed_twice(identifiers: &[u32]) -> Option<u32>
-    ensures { MatchOption result (AllDiffer identifiers.now) (λ n. IsListedTwice identifiers.now n) }
+    ensures { MatchOption result (AllDiffer identifiers.now) (IsListedTwice identifiers.now) }
 {
     for i in 0..identifiers.len() {
         if identifiers[..i].contains(&identifiers[i]) {

@@ -60,9 +60,10 @@ fn is_text(bytes: &[u8]) -> bool
 // What a file plainly is that is no plan, if that is plain: empty, a text, or shorter than every
 // plan. A text is said to be one whatever its length.
 pub fn plainly_no_plan(bytes: &[u8]) -> Option<NoPlan>
-    ensures it_is_so { MatchOption result ((28 ≤ length bytes.now) × (is_plain_text bytes.now ≡ false))
-        (IsPlainly bytes.now) }
-    ensures no_plan_is_said_to_be_none { (p : PlanRows) → Sound p → bytes.now ≡ file_of p → result ≡ None }
+    ensures it_is_so { MatchOption result
+        ((28 ≤ length bytes.now) × (is_plain_text bytes.now ≡ false)) (IsPlainly bytes.now) }
+    ensures no_plan_is_said_to_be_none { (p : PlanRows)
+        → Sound p → bytes.now ≡ file_of p → result ≡ None }
 {
     if bytes.is_empty() {
         return Some(NoPlan::Empty);

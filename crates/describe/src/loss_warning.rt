@@ -1,6 +1,6 @@
 // What is said where many runs of a scheduler are stuck or unfinished.
 ghost use Rattle.std.specs.Prelude.{◌≡◌, IfNone, IfSome};
-ghost use Rattle.describe.specs.Losses.{losses_of, warned_in};
+ghost use Rattle.describe.specs.Losses.{losses_of, warned_of};
 ghost use Rattle.describe.specs.LossWarnings.{IsLossWarning};
 
 use crate::losses::{Beside, Loss, greatest_loss, warned_beside, warned_rows};
@@ -26,7 +26,7 @@ pub(crate) struct LossWarning {
 impl LossWarning {
     // The warning that is due, if one is.
     pub(crate) fn of(rows: &[BatchRow], beside: &[Beside], runs: u32) -> Option<LossWarning>
-        ensures none { IfNone result (warned_in runs (losses_of rows.now beside.now) ≡ 0) }
+        ensures none { IfNone result (warned_of runs (losses_of rows.now beside.now) ≡ 0) }
         ensures so { IfSome result (IsLossWarning runs (losses_of rows.now beside.now)) }
     {
         let warned = warned_rows(rows, runs) + warned_beside(beside, runs);
@@ -62,27 +62,27 @@ impl fmt::Display for LossWarning {
         )?;
         write!(
             f,
-            " or unfinished, at most {}; {MEANING}",
-            Lossy { loss: worst, runs }
+            " or unfinished, most with {}; {MEANING}",
+            LossShown { loss: worst, runs }
         )
     }
 }
 
-// The loss of a scheduler, as `66.0% with scheduler 4`.
+// The loss of a scheduler, as `scheduler 4: 66.0%`.
 #[derive(Clone, Copy)]
-struct Lossy {
+struct LossShown {
     loss: Loss,
     runs: u32,
 }
 
-impl fmt::Display for Lossy {
+impl fmt::Display for LossShown {
     fn fmt<W: fmt::Write>(&self, f: &mut fmt::Formatter<W>) -> fmt::Result {
         let lost = u32::try_from(self.loss.runs).unwrap_or(u32::MAX);
         let share = Share::of(lost, self.runs);
         match self.loss.by {
-            Chooser::Earliest => write!(f, "{share} with earliest"),
-            Chooser::Latest => write!(f, "{share} with latest"),
-            Chooser::Sampled(identifier) => write!(f, "{share} with scheduler {identifier}"),
+            Chooser::Earliest => write!(f, "earliest: {share}"),
+            Chooser::Latest => write!(f, "latest: {share}"),
+            Chooser::Sampled(identifier) => write!(f, "scheduler {identifier}: {share}"),
         }
     }
 }

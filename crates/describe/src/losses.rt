@@ -1,8 +1,10 @@
 // Runs that neither reach nor fail: those that are stuck or unfinished.
-ghost use Rattle.std.specs.Prelude.{◌≡◌, ◌+◌, ◌*◌, ◌<◌, ◌↔◌, Option, IsTrue, count_by};
-ghost use Rattle.describe.specs.Losses.{IsGreatest, chooser_of, greater_of, loss_beside, loss_of_row, losses_of, warns};
+ghost use Rattle.std.specs.Prelude.{◌≡◌, ◌+◌, count_by};
+ghost use Rattle.describe.specs.Losses.{IsGreatest, chooser_of, greater_of};
+ghost use Rattle.describe.specs.Losses.{loss_beside, loss_of_row, losses_of, warns};
 
 use batch::BatchRow;
+use batch::tally::Tally;
 use schedulers::chooser::Chooser;
 use std::fmt;
 
@@ -14,7 +16,8 @@ pub enum Named {
 }
 
 impl Named {
-    fn chooser(self) -> Chooser
+    // The scheduler of this name.
+    pub fn chooser(self) -> Chooser
         ensures { result ≡ chooser_of self }
     {
         match self {
@@ -37,14 +40,11 @@ impl fmt::Display for Named {
 #[derive(Clone, Copy, Debug, PartialEq, Eq)]
 pub struct Beside {
     pub name: Named,
-    pub reached: u32,
-    pub failed: u32,
-    pub stuck: u32,
-    pub unfinished: u32,
+    pub tally: Tally,
 }
 
 // Whether more than 1 % of a scheduler's runs are stuck or unfinished.
-pub fn needs_warning(stuck: u32, unfinished: u32, runs: u32) -> bool
+pub(crate) fn needs_warning(stuck: u32, unfinished: u32, runs: u32) -> bool
     ensures { result ≡ warns (stuck + unfinished) runs }
 {
     u64::from(runs) < (u64::from(stuck) + u64::from(unfinished)) * 100
@@ -61,11 +61,11 @@ pub(crate) fn warned_rows(rows: &[BatchRow], runs: u32) -> usize
 
 // How many of the schedulers beside need one.
 pub(crate) fn warned_beside(beside: &[Beside], runs: u32) -> usize
-    ensures { result ≡ count_by (λ b. warns (b.stuck + b.unfinished) runs) beside.now }
+    ensures { result ≡ count_by (λ b. warns (b.tally.stuck + b.tally.unfinished) runs) beside.now }
 {
     beside
         .iter()
-        .filter(|b| needs_warning(b.stuck, b.unfinished, runs))
+        .filter(|b| needs_warning(b.tally.stuck, b.tally.unfinished, runs))
         .count()
 }
 
@@ -91,7 +91,7 @@ impl Loss {
     {
         Loss {
             by: other.name.chooser(),
-            runs: u64::from(other.stuck) + u64::from(other.unfinished),
+            runs: u64::from(other.tally.stuck) + u64::from(other.tally.unfinished),
         }
     }
 }

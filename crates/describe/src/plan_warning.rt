@@ -4,7 +4,8 @@ use rows::tables::TimerRow;
 use std::fmt;
 use warnings::Warning;
 
-// A warning of a plan with these timers: its stage, the timer and its ceiling, and what comes of it.
+// A warning of a plan with these timers: its stage, the timer and its ceiling, and what may come of
+// it.
 #[derive(Clone, Copy)]
 pub struct ShownWarning<'a> {
     pub warning: Warning,

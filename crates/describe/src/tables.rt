@@ -4,53 +4,29 @@ use crate::losses::Beside;
 use crate::shares::{HalfWidth, Share};
 use batch::BatchRow;
 use batch::ranking::{fewest_reached, most_reached};
+use batch::tally::Tally;
 use std::fmt;
 
 // What the half-width says, and what it does not.
-const HALF_WIDTH: &str = "half-width: 95 % for one scheduler by Hoeffding's bound; \
-    the best or worst of many tried needs more runs for the same";
+const HALF_WIDTH: &str = "half-width: for one scheduler with well-mixed draws, 95 % by Hoeffding's \
+    bound; the best or worst of many tried needs more runs to be as sure";
 
 // The columns of a line behind its name.
 #[derive(Clone, Copy)]
 struct Columns {
-    reached: u32,
-    failed: u32,
-    stuck: u32,
-    unfinished: u32,
+    tally: Tally,
     runs: u32,
-}
-
-impl Columns {
-    fn of_row(row: &BatchRow, runs: u32) -> Columns {
-        Columns {
-            reached: row.reached,
-            failed: row.failed,
-            stuck: row.stuck,
-            unfinished: row.unfinished,
-            runs,
-        }
-    }
-
-    fn beside(other: &Beside, runs: u32) -> Columns {
-        Columns {
-            reached: other.reached,
-            failed: other.failed,
-            stuck: other.stuck,
-            unfinished: other.unfinished,
-            runs,
-        }
-    }
 }
 
 impl fmt::Display for Columns {
     fn fmt<W: fmt::Write>(&self, f: &mut fmt::Formatter<W>) -> fmt::Result {
-        let Columns {
+        let Columns { tally, runs } = *self;
+        let Tally {
             reached,
             failed,
             stuck,
             unfinished,
-            runs,
-        } = *self;
+        } = tally;
         let share = Share::of(reached, runs);
         let half_width = HalfWidth::of(runs);
         write!(f, " {reached:>7} {failed:>6} {stuck:>5} {unfinished:>10}")?;
@@ -58,7 +34,7 @@ impl fmt::Display for Columns {
     }
 }
 
-// A row by its share, as `scheduler 3 with 52.1% ±4.3% (521 of 1000 runs)`.
+// A row by its share, as `scheduler 3 with 52.1% (521 of 1000 runs)`.
 #[derive(Clone, Copy)]
 struct Ranked {
     row: BatchRow,
@@ -71,11 +47,10 @@ impl fmt::Display for Ranked {
         let reached = self.row.reached;
         let runs = self.runs;
         let share = Share::of(reached, runs);
-        let half_width = HalfWidth::of(runs);
         let noun = if runs == 1 { "run" } else { "runs" };
         write!(
             f,
-            "scheduler {identifier} with {share} {half_width} ({reached} of {runs} {noun})"
+            "scheduler {identifier} with {share} ({reached} of {runs} {noun})"
         )
     }
 }
@@ -85,12 +60,18 @@ impl fmt::Display for Ranked {
 struct BestAndWorst<'a> {
     rows: &'a [BatchRow],
     runs: u32,
+    has_beside: bool,
 }
 
 impl<'a> fmt::Display for BestAndWorst<'a> {
     fn fmt<W: fmt::Write>(&self, f: &mut fmt::Formatter<W>) -> fmt::Result {
         let rows = self.rows;
         let runs = self.runs;
+        let those = if self.has_beside {
+            "those tried, the sampled ones"
+        } else {
+            "those tried"
+        };
         let foremost = [
             ("best", most_reached(rows)),
             ("worst", fewest_reached(rows)),
@@ -98,7 +79,7 @@ impl<'a> fmt::Display for BestAndWorst<'a> {
         for (name, place) in foremost {
             if let Some(place) = place {
                 let row = rows[place];
-                writeln!(f, "{name} of those tried: {}", Ranked { row, runs })?;
+                writeln!(f, "{name} of {those}: {}", Ranked { row, runs })?;
             }
         }
         Ok(())
@@ -124,12 +105,23 @@ impl<'a> fmt::Display for BatchTable<'a> {
             "identifier reached failed stuck unfinished  share half-width"
         )?;
         for row in rows {
-            writeln!(f, "{:>10}{}", row.identifier, Columns::of_row(row, runs))?;
+            let tally = row.tally();
+            writeln!(f, "{:>10}{}", row.identifier, Columns { tally, runs })?;
         }
         for other in beside {
-            writeln!(f, "{:>10}{}", other.name, Columns::beside(other, runs))?;
+            let tally = other.tally;
+            writeln!(f, "{:>10}{}", other.name, Columns { tally, runs })?;
         }
-        write!(f, "{}", BestAndWorst { rows, runs })?;
+        let has_beside = !beside.is_empty();
+        write!(
+            f,
+            "{}",
+            BestAndWorst {
+                rows,
+                runs,
+                has_beside
+            }
+        )?;
         writeln!(f, "{HALF_WIDTH}")?;
         if let Some(warning) = LossWarning::of(rows, beside, runs) {
             writeln!(f, "{warning}")?;

@@ -13,6 +13,7 @@ pub after_fits : (h : ℕ) → after h < 2 ^ 32
 unfolding after
 after_fits h = omega arith
 
+-- so has every later one
 pub iterated_fits : (k h : ℕ) → iterated (suc k) h < 2 ^ 32
 iterated_fits zero h = after_fits h
 iterated_fits (suc k) h = iterated_fits k (after h)
@@ -21,11 +22,12 @@ iterated_fits (suc k) h = iterated_fits k (after h)
 pub endless_fit : (h : ℕ) → DrawsFit (endless h)
 endless_fit h k g e = let s : iterated (suc k) h ≡ g = cc in omega (arith, iterated_fits k h)
 
--- so has every draw of mixed words
+-- the draw of any words has 32 bits
 pub draw_of_fits : (words : List ℕ) → draw_of words < 2 ^ 32
 unfolding draw_of
 draw_of_fits words = omega arith
 
+-- so has every draw to come at them
 pub stream_fits : (words : List ℕ) → DrawsFit (stream words)
 stream_fits words k g e =
     let s : draw_of (words_after k words) ≡ g = cc in omega (arith, draw_of_fits (words_after k words))

@@ -31,17 +31,21 @@ abbrev pub words_after : ℕ → List ℕ → List ℕ
 words_after zero words = words
 words_after (suc n) words = words_after n (next_words words)
 
+-- the draw that comes n draws after these words
+abbrev pub draws_from : List ℕ → ℕ → ℕ
+draws_from words n = draw_of (words_after n words)
+
 -- the draws to come at these words: one after the other, without end
 abbrev pub stream : List ℕ → Draws
-stream words = λ k. Some (draw_of (words_after k words))
+stream words = λ k. Some (draws_from words k)
 
 -- the rows of a seed
-abbrev pub mixed : ℕ → ℕ → Draws
-mixed seed row = stream (first_words seed row)
+abbrev pub mixed_rows : ℕ → ℕ → Draws
+mixed_rows seed row = stream (first_words seed row)
 
 -- the rows of a mixed source
 abbrev pub book_of : Mixed → ℕ → Draws
-book_of m = mixed m.seed
+book_of m = mixed_rows m.seed
 
 -- its draws to come
 abbrev pub coming_of : Mixed → Draws

@@ -3,7 +3,7 @@ ghost use Rattle.draws.specs.Computed.{first_state};
 ghost use Rattle.draws.specs.Either.{book_of, coming_of};
 ghost use Rattle.draws.specs.Ends.{always_ends, endless_ends, listed_ends, recorded_ends};
 ghost use Rattle.draws.specs.Fits.{endless_fit, listed_fit, recorded_fit, stream_fits};
-ghost use Rattle.draws.specs.Mixed.{draw_of, first_words, words_after};
+ghost use Rattle.draws.specs.Mixed.{draws_from, first_words};
 ghost use Rattle.draws.specs.declared.either.Source.TheVariants.{Computed, Mixed, Recorded};
 
 use crate::congruential::Congruential;
@@ -12,8 +12,7 @@ use crate::source::DrawSource;
 use crate::tape::Tape;
 use rows::refusal::Refusal;
 
-// Computed, mixed or recorded draws, whichever were asked for where the program runs. A closed list
-// and no `&mut dyn`: there are these kinds only, and a source of any of them is one value.
+// Computed, mixed or recorded draws, whichever were asked for where the program runs.
 #[derive(Debug, PartialEq, Eq, Drop)]
 pub enum Source<'a> {
     Computed(Congruential),
@@ -40,13 +39,13 @@ impl<'a> DrawSource for Source<'a> {
 
     ghost book_ends = { elim [
       | Computed c ↦ λ row. endless_ends (first_state c.seed row)
-      | Mixed m ↦ λ row. always_ends (λ k. draw_of (words_after k (first_words m.seed row)))
+      | Mixed m ↦ λ row. always_ends (draws_from (first_words m.seed row))
       | Recorded t ↦ recorded_ends t.row_length t.numbers.now
     ] };
 
     ghost coming_ends = { elim [
       | Computed c ↦ endless_ends c.state
-      | Mixed m ↦ always_ends (λ k. draw_of (words_after k m.words))
+      | Mixed m ↦ always_ends (draws_from m.words)
       | Recorded t ↦ listed_ends t.left.now
     ] };
 

@@ -1,8 +1,9 @@
-// Endless rows of well-mixed draws: each row of each seed is a stream of its own.
+// Endless rows of well-mixed draws: each row of each seed is begun from a number of its own.
 ghost use Rattle.std.specs.Prelude.{◌≡◌};
 ghost use Rattle.draws.specs.Ends.{always_ends};
 ghost use Rattle.draws.specs.Fits.{stream_fits};
-ghost use Rattle.draws.specs.Mixed.{EachRowHasItsOwnNumber, book_of, coming_of, draw_of, first_words, mixed, words_after};
+ghost use Rattle.draws.specs.Mixed.{EachRowHasItsOwnNumber, book_of, coming_of, draws_from};
+ghost use Rattle.draws.specs.Mixed.{first_words, mixed_rows};
 
 use crate::source::DrawSource;
 use rand_core::SeedableRng;
@@ -29,8 +30,8 @@ fn first(seed: u32, row: u32) -> Xoshiro128PlusPlus
 impl Mixed {
     // A source with this seed, at row 0.
     pub fn new(seed: u32) -> Mixed
-        ensures rows { book_of result ≡ mixed seed }
-        ensures at_row_0 { coming_of result ≡ mixed seed 0 }
+        ensures rows { book_of result ≡ mixed_rows seed }
+        ensures at_row_0 { coming_of result ≡ mixed_rows seed 0 }
         ensures each_row_has_its_own_number { EachRowHasItsOwnNumber }
     {
         Mixed {
@@ -49,9 +50,9 @@ impl DrawSource for Mixed {
 
     ghost coming_fits = { λ s. stream_fits s.words };
 
-    ghost book_ends = { λ s row. always_ends (λ k. draw_of (words_after k (first_words s.seed row))) };
+    ghost book_ends = { λ s row. always_ends (draws_from (first_words s.seed row)) };
 
-    ghost coming_ends = { λ s. always_ends (λ k. draw_of (words_after k s.words)) };
+    ghost coming_ends = { λ s. always_ends (draws_from s.words) };
 
     #[tactic(auto, unfolding(crate::specs::Mixed::draw_of, crate::specs::Mixed::next_words))]
     fn draw(&mut self) -> Result<u32, Refusal> {

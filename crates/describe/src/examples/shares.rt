@@ -1,8 +1,6 @@
 // Shares and half-widths in percent, and lists that name an identifier twice.
-use crate::faults::RefusedReset;
 use crate::identifiers::listed_twice;
 use crate::shares::{HalfWidth, Share};
-use rows::refusal::Refusal;
 use std::test::Fail;
 
 #[test]
@@ -60,20 +58,5 @@ fn identifiers_listed_twice(rt: HostRuntime) -> Result<(), Fail> {
     assert_eq!(rt; listed_twice(&[3, 5, 8]), None);
     assert_eq!(rt; listed_twice(&[3, 5, 5, 3]), Some(5));
     assert_eq!(rt; listed_twice(&[3, 5, 8, 3]), Some(3));
-    Ok(())
-}
-
-#[test]
-fn a_refused_reset_names_the_timer(rt: HostRuntime) -> Result<(), Fail> {
-    let not_there = format!(in rt.alloc(); "{}", RefusedReset(Refusal::NotThere))?;
-    assert_eq!(rt;
-        not_there.as_str(),
-        "refused 4: the reset names a timer that is not there"
-    );
-    let other = format!(in rt.alloc(); "{}", RefusedReset(Refusal::WaitOutsideHold))?;
-    assert_eq!(rt;
-        other.as_str(),
-        "refused 10: the wait leaves the hold interval or passes a ceiling"
-    );
     Ok(())
 }

@@ -7,11 +7,11 @@ use std::test::Fail;
 
 const HEADINGS: &str = "identifier reached failed stuck unfinished  share half-width\n";
 
-const HALF_WIDTH: &str =
-    "half-width: 95 % for one scheduler by Hoeffding's bound; the best or worst of many tried needs more runs for the same\n";
+const HALF_WIDTH: &str = "half-width: for one scheduler with well-mixed draws, 95 % by \
+    Hoeffding's bound; the best or worst of many tried needs more runs to be as sure\n";
 
-const MEANING: &str =
-    "stuck: no change was possible any more; unfinished: the steps, the allowance or the draws were used up; neither counts as reached\n";
+const MEANING: &str = "stuck: no change was possible any more; unfinished: the steps, the \
+    allowance or the draws were used up; neither counts as reached\n";
 
 fn row(identifier: u32, reached: u32, stuck: u32, unfinished: u32) -> BatchRow {
     BatchRow {
@@ -26,10 +26,7 @@ fn row(identifier: u32, reached: u32, stuck: u32, unfinished: u32) -> BatchRow {
 fn beside(name: Named, reached: u32, stuck: u32, unfinished: u32) -> Beside {
     Beside {
         name,
-        reached,
-        failed: 1000u32.saturating_sub(reached),
-        stuck,
-        unfinished,
+        tally: row(0, reached, stuck, unfinished).tally(),
     }
 }
 
@@ -51,7 +48,7 @@ fn a_table_of_sampled_schedulers(rt: HostRuntime) -> Result<(), Fail> {
         "{}{}{}{}",
         HEADINGS,
         "         0     487    513     0          0  48.7%      ±4.3%\n         3     521    479    10          0  52.1%      ±4.3%\n        12     450    550     3          7  45.0%      ±4.3%\n        13     450    550     0          0  45.0%      ±4.3%\n",
-        "best of those tried: scheduler 3 with 52.1% ±4.3% (521 of 1000 runs)\nworst of those tried: scheduler 12 with 45.0% ±4.3% (450 of 1000 runs)\n",
+        "best of those tried: scheduler 3 with 52.1% (521 of 1000 runs)\nworst of those tried: scheduler 12 with 45.0% (450 of 1000 runs)\n",
         HALF_WIDTH
     )?;
     assert_eq!(rt; text.as_str(), expected.as_str());
@@ -75,9 +72,9 @@ fn a_table_with_others_beside_and_a_warning(rt: HostRuntime) -> Result<(), Fail>
         "{}{}{}{}{}{}",
         HEADINGS,
         "         4     340    660   600         60  34.0%      ±4.3%\n4294967295    1000      0     0          0 100.0%      ±4.3%\n  earliest     612    388    11          0  61.2%      ±4.3%\n    latest     340    660     0        660  34.0%      ±4.3%\n",
-        "best of those tried: scheduler 4294967295 with 100.0% ±4.3% (1000 of 1000 runs)\nworst of those tried: scheduler 4 with 34.0% ±4.3% (340 of 1000 runs)\n",
+        "best of those tried, the sampled ones: scheduler 4294967295 with 100.0% (1000 of 1000 runs)\nworst of those tried, the sampled ones: scheduler 4 with 34.0% (340 of 1000 runs)\n",
         HALF_WIDTH,
-        "warning: with 3 of 4 schedulers more than 1% of the runs are stuck or unfinished, at most 66.0% with scheduler 4; ",
+        "warning: with 3 of 4 schedulers more than 1% of the runs are stuck or unfinished, most with scheduler 4: 66.0%; ",
         MEANING
     )?;
     assert_eq!(rt; text.as_str(), expected.as_str());
@@ -103,9 +100,9 @@ fn one_scheduler_with_one_run(rt: HostRuntime) -> Result<(), Fail> {
         "{}{}{}{}{}{}",
         HEADINGS,
         "         7       0      0     1          0   0.0%    ±100.0%\n",
-        "best of those tried: scheduler 7 with 0.0% ±100.0% (0 of 1 run)\nworst of those tried: scheduler 7 with 0.0% ±100.0% (0 of 1 run)\n",
+        "best of those tried: scheduler 7 with 0.0% (0 of 1 run)\nworst of those tried: scheduler 7 with 0.0% (0 of 1 run)\n",
         HALF_WIDTH,
-        "warning: with 1 of 1 scheduler more than 1% of the runs are stuck or unfinished, at most 100.0% with scheduler 7; ",
+        "warning: with 1 of 1 scheduler more than 1% of the runs are stuck or unfinished, most with scheduler 7: 100.0%; ",
         MEANING
     )?;
     assert_eq!(rt; text.as_str(), expected.as_str());
@@ -129,7 +126,7 @@ fn others_alone_have_no_best_of_those_tried(rt: HostRuntime) -> Result<(), Fail>
         HEADINGS,
         "    latest     340    660     0          0  34.0%      ±4.3%\n  earliest       0   1000     5          6   0.0%      ±4.3%\n",
         HALF_WIDTH,
-        "warning: with 1 of 2 schedulers more than 1% of the runs are stuck or unfinished, at most 1.1% with earliest; ",
+        "warning: with 1 of 2 schedulers more than 1% of the runs are stuck or unfinished, most with earliest: 1.1%; ",
         MEANING
     )?;
     assert_eq!(rt; text.as_str(), expected.as_str());

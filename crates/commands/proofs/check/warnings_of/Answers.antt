@@ -6,7 +6,7 @@ use Rattle.warnings.specs.Promised.{WhereNothingIsWarnedTheHoldEndsBeforeTheCeil
 use Rattle.commands.specs.Files.{rows_read}
 use Rattle.commands.proofs.check.warnings_of.Goals as goal
 
-pub returns-clause-no_false_comfort : goal.returns-clause-no_false_comfort
-returns-clause-no_false_comfort c =
+pub returns-clause-where_nothing_is_warned_the_hold_ends_before_the_ceiling : goal.returns-clause-where_nothing_is_warned_the_hold_ends_before_the_ceiling
+returns-clause-where_nothing_is_warned_the_hold_ends_before_the_ceiling c =
     let same : plan_in (held_by c.of_tables.result.rows) ≡ plan_in (rows_read c.args.file.now) = ap plan_in (c.of_tables.ensures.rows ∙ c.handed.ensures.the_plan_read_is_the_plan_that_runs) in
     subst (λ (p : Plan). IfOk c.warnings.result (λ found. WhereNothingIsWarnedTheHoldEndsBeforeTheCeiling p found.items)) same c.warnings.ensures.where_nothing_is_warned_the_hold_ends_before_the_ceiling

@@ -3,4 +3,4 @@ use Rattle.commands.proofs.possible.shown_first.Goals as goal
 
 pub returns : goal.returns
 unfolding shown
-returns c = c.entries_of.ensures
+returns c = c.entries_at.ensures

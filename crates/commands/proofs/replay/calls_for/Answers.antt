@@ -15,8 +15,8 @@ loop-line-preserved c =
     let more = EachFor-append Asks (map (λ (x : Bor (List ℕ)). x.now) c.loop-line.yielded) c.loop-line.calls.items c.in-Some.line.now c.in_ok-asked.asked c.loop-line.invariant asks in
     rw (map-append (λ (x : Bor (List ℕ)). x.now) c.loop-line.yielded (c.in-Some.line ∷ []), c.in_ok-push.ensures.items) more
 
-pub returns : goal.returns
-returns c =
+pub returns-clause-asked : goal.returns-clause-asked
+returns-clause-asked c =
     let road = YieldsList-from_lines {s = c.into_iter-line-iterator.result} c.args.text.now (ap lines_rest c.into_iter-line-iterator.ensures.into_iter_gives ∙ c.lines-line-items.ensures.rest) in
     let all = all_seen lines_steps (λ x. x.now) c.loop-line.yielded c.into_iter-line-iterator.result c.loop-line.line-iterator c.next.new.self (lines c.args.text.now) road c.loop-line.yielded_by c.in-None.ensures.steps in
     rw all c.loop-line.invariant

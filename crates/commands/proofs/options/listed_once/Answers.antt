@@ -3,7 +3,7 @@ use Rattle.std.specs.Option.{MatchOption}
 use Rattle.std.specs.Global.{Global}
 use Rattle.std.specs.Prelude.{Vec}
 use Rattle.describe.specs.Identifiers.{AllDiffer, Lists}
-use Rattle.commands.proofs.options.listed.Goals as goal
+use Rattle.commands.proofs.options.listed_once.Goals as goal
 
 pub returns-in-None : goal.returns-in-None
 returns-in-None c = (
