@@ -108,16 +108,10 @@ fn rows_of(
 {
     let identifiers = &options.identifiers;
     let mut rows = vec![in rt.alloc(); BatchRow::default(); identifiers.len()]?;
+    let limits = options.limits;
     let handed = file.handed();
     let mut source = draws.source_at(0);
-    fill_rows(
-        rt,
-        handed,
-        &mut source,
-        identifiers,
-        options.limits,
-        &mut rows,
-    )?;
+    fill_rows(rt, handed, &mut source, identifiers, limits, &mut rows)?;
     Ok(rows)
 }
 

@@ -20,7 +20,7 @@ use Rattle.runs.proofs.Goals.{goal_by_is}
 use Rattle.runs.proofs.Picking.{picked_picks, some_weight, ticket_fits}
 use Rattle.runs.proofs.Plans.{sound_change, sound_outcome}
 use Rattle.runs.proofs.Taking.{Fits, take_cases, take_met, take_no_draw, take_taken}
-use Rattle.warnings.specs.Arrivals.{ChangeFollowed, Closed, Covers, Followed, arrivals_in, is_final, most_on_leaving}
+use Rattle.warnings.specs.Arrivals.{ChangeFollowed, Closed, Covers, OutcomeFollowed, arrivals_in, is_final, most_on_leaving}
 use Rattle.warnings.specs.declared.bounds.Bounds.{Bounds}
 use Rattle.warnings.proofs.Holding.{shown_on_leaving}
 use Rattle.warnings.proofs.Resetting.{reset_under}
@@ -81,7 +81,7 @@ opening_followable plan table draws c d = record { draws_fit = d; arrived_if_ope
         record { bounds = a.0; in_table = a.1; within = zeros a.0 }
 
 -- where an outcome is followed, an open run that comes by it has arrived
-pub outcome_arrives : (plan : Plan) (table : List (Option Bounds)) (run : Run) (d : ℕ) (o : Outcome) (from : Bounds) → Inv plan run → d ≤ top plan run.stage run.region → ((x : ℕ) → x < length plan.ceilings → count run.region (timer_no run.region x) ≤ 2 * run.region.classes * get_or from.most x 0) → length o.resets ≡ length plan.ceilings → Followed plan table (most_on_leaving plan run.stage from) o → is_open (judged plan o.target (reset o.resets (wait d run.region))) ≡ true → Arrived plan table (arrived plan run d o)
+pub outcome_arrives : (plan : Plan) (table : List (Option Bounds)) (run : Run) (d : ℕ) (o : Outcome) (from : Bounds) → Inv plan run → d ≤ top plan run.stage run.region → ((x : ℕ) → x < length plan.ceilings → count run.region (timer_no run.region x) ≤ 2 * run.region.classes * get_or from.most x 0) → length o.resets ≡ length plan.ceilings → OutcomeFollowed plan table (most_on_leaving plan run.stage from) o → is_open (judged plan o.target (reset o.resets (wait d run.region))) ≡ true → Arrived plan table (arrived plan run d o)
 outcome_arrives plan table run d o from h l within marks followed going =
     record { bounds = to.0; in_table = to.1; within = λ x k. reset_under o.resets w x (get_or to.0.most x 0) (wait_keeps_valid d run.region h.valid) (marks ∙ sym as_many) (omega (arith, as_many, k)) (shown x k) }
   where
@@ -127,7 +127,7 @@ take_followable plan table run c d s k h a = go (take_cases plan run c d)
         let here = a.arrived_if_open (ap is_open f.going_on) in
         let stage = k.stages_closed run.stage h.a_stage in
         let followed = All-get_or (ChangeFollowed plan table (most_on_leaving plan run.stage here.bounds)) (stage_of plan run.stage).changes (c - (stage_of plan run.stage).first) blank_change (omega (arith, f.of_stage)) (stage.changes_followed here.bounds here.in_table) in
-        let outcome = All-get_or (Followed plan table (most_on_leaving plan run.stage here.bounds)) change.outcomes n blank_outcome l followed in
+        let outcome = All-get_or (OutcomeFollowed plan table (most_on_leaving plan run.stage here.bounds)) change.outcomes n blank_outcome l followed in
         let sound = sound_outcome plan s run.stage c n f.of_stage l in
         record {
           draws_fit = λ m g' e. a.draws_fit (m + 1) g' (later m g' e);

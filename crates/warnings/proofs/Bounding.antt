@@ -6,7 +6,7 @@ use Rattle.std.proofs.lemmas.Bool.{cases_Bool, cond-false, cond-true}
 use Rattle.theory.specs.Regions.{Comparison}
 use Rattle.runs.specs.Plans.{Change, Outcome, Plan, Sound, SoundPlanChange, SoundPlanOutcome, stage_of}
 use Rattle.runs.proofs.Plans.{sound_stage}
-use Rattle.warnings.specs.Arrivals.{ChangeFollowed, Closed, Followed, StageClosed, arrivals_in, is_final, most_on_leaving}
+use Rattle.warnings.specs.Arrivals.{ChangeFollowed, Closed, OutcomeFollowed, StageClosed, arrivals_in, is_final, most_on_leaving}
 use Rattle.warnings.specs.Limits.{narrowed, narrowed_by, upper_limit}
 use Rattle.warnings.specs.declared.bounds.Bounds.{Bounds}
 use Rattle.warnings.specs.declared.limit.Limit.{Limit}
@@ -40,7 +40,7 @@ AllWidest plan table b =
 widest_arrives : (plan : Plan) (table : List (Option Bounds)) (b : Bounds) → AllWidest plan table b → (i : ℕ) → i < length plan.stages → is_final plan i ≡ false → arrivals_in table i ≡ Some b
 widest_arrives plan table b w i l e = w i l ∙ cond-false (is_final plan i) None (Some b) e
 
-widest_followed : (plan : Plan) (table : List (Option Bounds)) (b from : Bounds) (i : ℕ) → AllWidest plan table b → ((x : ℕ) → x < length plan.ceilings → get_or b.most x 0 ≡ get_or plan.ceilings x 0) → (o : Outcome) → SoundPlanOutcome plan o → Followed plan table (most_on_leaving plan i from) o
+widest_followed : (plan : Plan) (table : List (Option Bounds)) (b from : Bounds) (i : ℕ) → AllWidest plan table b → ((x : ℕ) → x < length plan.ceilings → get_or b.most x 0 ≡ get_or plan.ceilings x 0) → (o : Outcome) → SoundPlanOutcome plan o → OutcomeFollowed plan table (most_on_leaving plan i from) o
 widest_followed plan table b from i w same o s e =
     (b, widest_arrives plan table b w o.target s.leads e, λ x l m. omega (arith, leaving_less plan i from x, same x l))
 
@@ -55,7 +55,7 @@ widest_stage plan table b s w same i l =
 
     change : (a : Bounds) (c : Change) → SoundPlanChange plan c → ChangeFollowed plan table (most_on_leaving plan i a) c
     change a c h =
-        All-weaker (SoundPlanOutcome plan) (Followed plan table (most_on_leaving plan i a)) (widest_followed plan table b a i w same) c.outcomes h.outcomes_sound
+        All-weaker (SoundPlanOutcome plan) (OutcomeFollowed plan table (most_on_leaving plan i a)) (widest_followed plan table b a i w same) c.outcomes h.outcomes_sound
 
 -- keeps the rules, if b is the ceilings
 pub widest_closed : (plan : Plan) (table : List (Option Bounds)) (b : Bounds) → Sound plan → length table ≡ length plan.stages → AllWidest plan table b → ((x : ℕ) → x < length plan.ceilings → get_or b.most x 0 ≡ get_or plan.ceilings x 0) → Closed plan table

@@ -6,7 +6,7 @@ use Rattle.std.proofs.ByRecursion.{All-weaker}
 use Rattle.std.proofs.lemmas.List.FromFn.{get_or-map-range_with_len}
 use Rattle.region.specs.Resetting.{bit_no, marks}
 use Rattle.runs.specs.Plans.{Change, Outcome, Plan}
-use Rattle.warnings.specs.Arrivals.{ChangeFollowed, ChangesFollowed, Covers, Followed}
+use Rattle.warnings.specs.Arrivals.{ChangeFollowed, ChangesFollowed, Covers, OutcomeFollowed}
 use Rattle.warnings.specs.declared.bounds.Bounds.{Bounds}
 
 -- one timer more is covered
@@ -27,14 +27,14 @@ all_mapped P f (x ∷ xs) d h = (h 0 (omega arith), all_mapped P f xs d (λ k l.
 pub covers_alike : (n : ℕ) (most most' : ℕ → ℕ) (resets : List Bool) (b : Bounds) → ((x : ℕ) → x < n → most x ≡ most' x) → Covers n most resets b → Covers n most' resets b
 covers_alike n most most' resets b same h x l e = omega (arith, same x l, h x l e)
 
-followed_alike : (plan : Plan) (table : List (Option Bounds)) (most most' : ℕ → ℕ) → ((x : ℕ) → x < length plan.ceilings → most x ≡ most' x) → (o : Outcome) → Followed plan table most o → Followed plan table most' o
+followed_alike : (plan : Plan) (table : List (Option Bounds)) (most most' : ℕ → ℕ) → ((x : ℕ) → x < length plan.ceilings → most x ≡ most' x) → (o : Outcome) → OutcomeFollowed plan table most o → OutcomeFollowed plan table most' o
 followed_alike plan table most most' same o h e =
     let to = h e in
     (to.0, to.1, covers_alike (length plan.ceilings) most most' o.resets to.0 same to.2)
 
 change_followed_alike : (plan : Plan) (table : List (Option Bounds)) (most most' : ℕ → ℕ) → ((x : ℕ) → x < length plan.ceilings → most x ≡ most' x) → (c : Change) → ChangeFollowed plan table most c → ChangeFollowed plan table most' c
 change_followed_alike plan table most most' same c h =
-    All-weaker (Followed plan table most) (Followed plan table most') (followed_alike plan table most most' same) c.outcomes h
+    All-weaker (OutcomeFollowed plan table most) (OutcomeFollowed plan table most') (followed_alike plan table most most' same) c.outcomes h
 
 pub changes_followed_alike : (plan : Plan) (table : List (Option Bounds)) (most most' : ℕ → ℕ) (cs : List Change) → ((x : ℕ) → x < length plan.ceilings → most x ≡ most' x) → ChangesFollowed plan table most cs → ChangesFollowed plan table most' cs
 changes_followed_alike plan table most most' cs same h =

@@ -8,4 +8,5 @@ pub mod Arriving
 pub mod Comfort
 pub mod DeadEnds
 pub mod Listed
+pub mod Raising
 pub mod Promised

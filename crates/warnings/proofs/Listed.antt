@@ -4,7 +4,7 @@ use Rattle.std.proofs.lemmas.Bool.{cases_eq}
 use Rattle.std.proofs.lemmas.List.Elements.{Contains-append_left, Contains-append_right, Contains-append_cases}
 use Rattle.runs.specs.Plans.{Plan}
 use Rattle.warnings.specs.Arrivals.{arrivals_in}
-use Rattle.warnings.specs.Warned.{arrival_warned, ceiling_may_end_hold, ceilings_warned, has_no_way_out, stages_warned, warned_in}
+use Rattle.warnings.specs.Warned.{arrival_warned, ceiling_may_end_hold, ceilings_warned, has_no_way_out, stages_warned, stage_warned}
 use Rattle.warnings.specs.declared.Warning.{Warning}
 use Rattle.warnings.specs.declared.Warning.TheVariants.{CeilingMayEndHold, NoWayOut}
 use Rattle.warnings.specs.declared.bounds.Bounds.{Bounds}
@@ -56,11 +56,11 @@ arrivals_warn_of_ceilings plan i (Some b) k h = no_way_among plan i b (length pl
 abbrev last_of : Plan → List (Option Bounds) → ℕ → List Warning
 last_of plan table i = cond (has_no_way_out plan table i) (NoWayOut i ∷ []) []
 
-pub no_way_out_listed : (plan : Plan) (table : List (Option Bounds)) (i : ℕ) → has_no_way_out plan table i ≡ true → Contains (warned_in plan table i) (NoWayOut i)
+pub no_way_out_listed : (plan : Plan) (table : List (Option Bounds)) (i : ℕ) → has_no_way_out plan table i ≡ true → Contains (stage_warned plan table i) (NoWayOut i)
 no_way_out_listed plan table i t =
     Contains-append_right (arrival_warned plan i (arrivals_in table i)) (last_of plan table i) (NoWayOut i) (given (has_no_way_out plan table i) (NoWayOut i) t)
 
-listed_no_way_out : (plan : Plan) (table : List (Option Bounds)) (i k : ℕ) → Contains (warned_in plan table i) (NoWayOut k) → has_no_way_out plan table k ≡ true
+listed_no_way_out : (plan : Plan) (table : List (Option Bounds)) (i k : ℕ) → Contains (stage_warned plan table i) (NoWayOut k) → has_no_way_out plan table k ≡ true
 listed_no_way_out plan table i k h =
     go (Contains-append_cases (arrival_warned plan i (arrivals_in table i)) (last_of plan table i) (NoWayOut k) h)
   where
@@ -72,28 +72,28 @@ listed_no_way_out plan table i k h =
         let f : i ≡ k = cc in
         subst (λ j. has_no_way_out plan table j ≡ true) f d.0
 
-pub arrival_listed : (plan : Plan) (table : List (Option Bounds)) (i x : ℕ) (b : Bounds) → arrivals_in table i ≡ Some b → x < length plan.ceilings → ceiling_may_end_hold plan i b x ≡ true → Contains (warned_in plan table i) (CeilingMayEndHold i x)
+pub arrival_listed : (plan : Plan) (table : List (Option Bounds)) (i x : ℕ) (b : Bounds) → arrivals_in table i ≡ Some b → x < length plan.ceilings → ceiling_may_end_hold plan i b x ≡ true → Contains (stage_warned plan table i) (CeilingMayEndHold i x)
 arrival_listed plan table i x b e l t =
     Contains-append_left (arrival_warned plan i (arrivals_in table i)) (last_of plan table i) (CeilingMayEndHold i x) (subst (λ o. Contains (arrival_warned plan i o) (CeilingMayEndHold i x)) (sym e) (ceiling_listed plan i b (length plan.ceilings) x l t))
 
 -- what is warned of a stage is among the warnings
-pub stage_listed : (plan : Plan) (table : List (Option Bounds)) (n i : ℕ) (w : Warning) → i < n → Contains (warned_in plan table i) w → Contains (stages_warned plan table n) w
+pub stage_listed : (plan : Plan) (table : List (Option Bounds)) (n i : ℕ) (w : Warning) → i < n → Contains (stage_warned plan table i) w → Contains (stages_warned plan table n) w
 stage_listed plan table zero i w l h = absurd (omega arith)
 stage_listed plan table (suc n) i w l h = go (cases_eq n i) (λ k. stage_listed plan table n i w k h)
   where
-    go : (n ≡ i) ⊎ (n ≡ i → ⊥) → (i < n → Contains (stages_warned plan table n) w) → Contains (stages_warned plan table n ++ warned_in plan table n) w
+    go : (n ≡ i) ⊎ (n ≡ i → ⊥) → (i < n → Contains (stages_warned plan table n) w) → Contains (stages_warned plan table n ++ stage_warned plan table n) w
     go (inl e) before =
-        Contains-append_right (stages_warned plan table n) (warned_in plan table n) w (subst (λ j. Contains (warned_in plan table j) w) (sym e) h)
+        Contains-append_right (stages_warned plan table n) (stage_warned plan table n) w (subst (λ j. Contains (stage_warned plan table j) w) (sym e) h)
     go (inr e) before =
-        Contains-append_left (stages_warned plan table n) (warned_in plan table n) w (before (omega arith))
+        Contains-append_left (stages_warned plan table n) (stage_warned plan table n) w (before (omega arith))
 
 -- a stage that is warned of as without a way out has none
 pub listed_has_no_way_out : (plan : Plan) (table : List (Option Bounds)) (n k : ℕ) → Contains (stages_warned plan table n) (NoWayOut k) → has_no_way_out plan table k ≡ true
 listed_has_no_way_out plan table zero k h = absurd (none_among (NoWayOut k) h)
 listed_has_no_way_out plan table (suc n) k h =
-    go (Contains-append_cases (stages_warned plan table n) (warned_in plan table n) (NoWayOut k) h) (listed_has_no_way_out plan table n k)
+    go (Contains-append_cases (stages_warned plan table n) (stage_warned plan table n) (NoWayOut k) h) (listed_has_no_way_out plan table n k)
   where
-    go : Contains (stages_warned plan table n) (NoWayOut k) ⊎ Contains (warned_in plan table n) (NoWayOut k) → (Contains (stages_warned plan table n) (NoWayOut k) → has_no_way_out plan table k ≡ true) → has_no_way_out plan table k ≡ true
+    go : Contains (stages_warned plan table n) (NoWayOut k) ⊎ Contains (stage_warned plan table n) (NoWayOut k) → (Contains (stages_warned plan table n) (NoWayOut k) → has_no_way_out plan table k ≡ true) → has_no_way_out plan table k ≡ true
     go (inl c) before = before c
     go (inr c) before = listed_no_way_out plan table n k c
 

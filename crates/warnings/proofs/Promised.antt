@@ -4,7 +4,7 @@ use Rattle.std.specs.List.{list_all}
 use Rattle.std.proofs.lemmas.Bool.{and_from, cases_Bool, not_from_false}
 use Rattle.runs.specs.Plans.{Change, Plan, Sound, stage_of}
 use Rattle.warnings.specs.Arrivals.{Closed, most_shown}
-use Rattle.warnings.specs.Promised.{AStageWarnedAsWithoutAWayOutOffersNothing, AStageWithoutChangesIsWarned, WhereNothingIsWarnedTheHoldEndsBeforeTheCeiling}
+use Rattle.warnings.specs.Promised.{AStageWarnedAsWithoutAWayOutOffersNothing, AStageWithoutChangesIsWarned, WhereNothingIsWarnedAHigherCeilingLetsNoRunStayLonger, WhereNothingIsWarnedTheHoldEndsBeforeTheCeiling}
 use Rattle.warnings.specs.Warned.{ceiling_may_end_hold, has_no_way_out, is_never_allowed, is_unmarked, warned}
 use Rattle.warnings.specs.declared.Warning.{Warning}
 use Rattle.warnings.specs.declared.Warning.TheVariants.{CeilingMayEndHold, NoWayOut}
@@ -12,6 +12,7 @@ use Rattle.warnings.specs.declared.bounds.Bounds.{Bounds}
 use Rattle.warnings.proofs.Comfort.{NoCeilingWarned, the_hold_ends}
 use Rattle.warnings.proofs.DeadEnds.{a_dead_end}
 use Rattle.warnings.proofs.Listed.{arrival_listed, listed_has_no_way_out, no_way_out_listed, stage_listed}
+use Rattle.warnings.proofs.Raising.{no_run_stays_longer}
 
 not_listed : (plan : Plan) (table : List (Option Bounds)) (i x : ℕ) → i < length plan.stages → x < length plan.ceilings → (Contains (warned plan table) (CeilingMayEndHold i x) → ⊥) → NoCeilingWarned plan table i x
 not_listed plan table i x l k none b e = go (cases_Bool (ceiling_may_end_hold plan i b x))
@@ -24,6 +25,10 @@ not_listed plan table i x l k none b e = go (cases_Bool (ceiling_may_end_hold pl
 pub no_false_comfort : (plan : Plan) (table : List (Option Bounds)) (found : List Warning) → Sound plan → Closed plan table → found ≡ warned plan table → WhereNothingIsWarnedTheHoldEndsBeforeTheCeiling plan found
 no_false_comfort plan table found s k e i x l m none =
     the_hold_ends plan table i x s k m (not_listed plan table i x l m (subst (λ (w : List Warning). Contains w (CeilingMayEndHold i x) → ⊥) e none))
+
+pub no_longer_stay : (plan : Plan) (table : List (Option Bounds)) (found : List Warning) → Sound plan → Closed plan table → found ≡ warned plan table → WhereNothingIsWarnedAHigherCeilingLetsNoRunStayLonger plan found
+no_longer_stay plan table found s k e i x l m none =
+    no_run_stays_longer plan i x m (no_false_comfort plan table found s k e i x l m none)
 
 pub dead_ends : (plan : Plan) (table : List (Option Bounds)) (found : List Warning) → Sound plan → Closed plan table → found ≡ warned plan table → AStageWarnedAsWithoutAWayOutOffersNothing plan found
 dead_ends plan table found s k e i h =

@@ -32,13 +32,13 @@ Covers n most resets b =
     (x : ℕ) → x < n → slice_index_or resets x false ≡ false → most x ≤ slice_index b.most x
 
 -- an outcome leads to a final stage, or to one whose bounds cover what the timers can show before
-abbrev pub Followed : Plan → List (Option Bounds) → (ℕ → ℕ) → Outcome → Type 0
-Followed plan table most o =
+abbrev pub OutcomeFollowed : Plan → List (Option Bounds) → (ℕ → ℕ) → Outcome → Type 0
+OutcomeFollowed plan table most o =
     is_final plan o.target ≡ false → (b : Bounds) × (arrivals_in table o.target ≡ Some b) × Covers (length plan.ceilings) most o.resets b
 
 -- each outcome of a change is followed
 abbrev pub ChangeFollowed : Plan → List (Option Bounds) → (ℕ → ℕ) → Change → Type 0
-ChangeFollowed plan table most c = AllByRecursion (Followed plan table most) c.outcomes
+ChangeFollowed plan table most c = AllByRecursion (OutcomeFollowed plan table most) c.outcomes
 
 -- each outcome of each change is followed
 abbrev pub ChangesFollowed : Plan → List (Option Bounds) → (ℕ → ℕ) → List Change → Type 0

@@ -60,14 +60,14 @@ arrival_warned plan i None = []
 arrival_warned plan i (Some b) = ceilings_warned plan i b (length plan.ceilings)
 
 -- the warnings of stage i: first those of its timers, then that it has no way out
-abbrev pub warned_in : Plan → List (Option Bounds) → ℕ → List Warning
-warned_in plan table i =
+abbrev pub stage_warned : Plan → List (Option Bounds) → ℕ → List Warning
+stage_warned plan table i =
     arrival_warned plan i (arrivals_in table i) ++ cond (has_no_way_out plan table i) (NoWayOut i ∷ []) []
 
 -- the warnings of the first n stages
 abbrev pub stages_warned : Plan → List (Option Bounds) → ℕ → List Warning
 stages_warned plan table zero = []
-stages_warned plan table (suc n) = stages_warned plan table n ++ warned_in plan table n
+stages_warned plan table (suc n) = stages_warned plan table n ++ stage_warned plan table n
 
 -- the warnings of a plan
 abbrev pub warned : Plan → List (Option Bounds) → List Warning

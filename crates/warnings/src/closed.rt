@@ -3,7 +3,8 @@ ghost use Rattle.std.specs.Prelude.{ℕ, ◌<◌, map, length, IsTrue, slice_ind
 ghost use Rattle.offers.specs.Known.{plan_of, rows_of};
 ghost use Rattle.region.specs.Resetting.{marks};
 ghost use Rattle.runs.specs.Tables.{change_of_row, outcome_of_row};
-ghost use Rattle.warnings.specs.Arrivals.{ChangeFollowed, ChangesFollowed, Closed, Covers, Followed, StageClosed};
+ghost use Rattle.warnings.specs.Arrivals.{ChangeFollowed, ChangesFollowed, OutcomeFollowed};
+ghost use Rattle.warnings.specs.Arrivals.{Closed, Covers, StageClosed};
 
 use crate::bounds::Bounds;
 use crate::leaving::leaving;
@@ -32,7 +33,7 @@ fn is_followed(
     leaving: &Bounds,
     outcome: OutcomeRow,
 ) -> bool
-    ensures { IsTrue result → Followed (plan_of plan.now) table.now
+    ensures { IsTrue result → OutcomeFollowed (plan_of plan.now) table.now
         (slice_index leaving.now.most) (outcome_of_row (rows_of plan.now) outcome) }
 {
     match arrivals_in(table, outcome.stage) {

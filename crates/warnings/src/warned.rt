@@ -1,7 +1,8 @@
 // The warnings, by a table of arrivals.
 ghost use Rattle.std.specs.Prelude.{◌≡◌, ◌++◌, length, IfOk, OnOk};
 ghost use Rattle.offers.specs.Known.{plan_of};
-ghost use Rattle.warnings.specs.Warned.{ceiling_may_end_hold, ceilings_warned, warned, warned_in};
+ghost use Rattle.warnings.specs.Warned.{ceiling_may_end_hold, ceilings_warned};
+ghost use Rattle.warnings.specs.Warned.{stage_warned, warned};
 
 use crate::Warning;
 use crate::bounds::Bounds;
@@ -54,7 +55,7 @@ fn warn_of_stage(
     found: &mut Vec<Warning>,
 ) -> Result<(), AllocError>
     ensures { OnOk result (found.new.items ≡ found.old.items
-        ++ warned_in (plan_of plan.now) table.now stage) }
+        ++ stage_warned (plan_of plan.now) table.now stage) }
 {
     if let Some(arrival) = arrivals_in(table, stage) {
         warn_of_ceilings(plan, stage, &arrival, found)?;

@@ -1,4 +1,4 @@
-use Rattle.std.proofs.Common.{◌*◌, map, take}
+use Rattle.std.proofs.Common.{◌≡◌, ◌*◌, length, map, take}
 use Rattle.commands.specs.Walks.{AskMoves}
 use Rattle.commands.proofs.walk.moves_for.Given as goal
 
