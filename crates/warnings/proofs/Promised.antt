@@ -2,10 +2,10 @@
 use Rattle.std.proofs.Common.{◌≡◌, ℕ, ◌<◌, true, false, not, ◌⊎◌, List, length, Option, Contains, sym, ap, subst, inl, inr}
 use Rattle.std.specs.List.{list_all}
 use Rattle.std.proofs.lemmas.Bool.{and_from, cases_Bool, not_from_false}
-use Rattle.runs.specs.Plans.{Change, Plan, Sound, stage_of}
-use Rattle.warnings.specs.Arrivals.{Closed, most_shown}
+use Rattle.runs.specs.Plans.{Plan, Sound, stage_of}
+use Rattle.warnings.specs.Arrivals.{Closed}
 use Rattle.warnings.specs.Promised.{AStageWarnedAsWithoutAWayOutOffersNothing, AStageWithoutChangesIsWarned, WhereNothingIsWarnedAHigherCeilingLetsNoRunStayLonger, WhereNothingIsWarnedTheHoldEndsBeforeTheCeiling}
-use Rattle.warnings.specs.Warned.{ceiling_may_end_hold, has_no_way_out, is_never_allowed, is_unmarked, warned}
+use Rattle.warnings.specs.Warned.{ceiling_may_end_hold, change_is_never_possible, has_no_way_out, is_unmarked, warned}
 use Rattle.warnings.specs.declared.Warning.{Warning}
 use Rattle.warnings.specs.declared.Warning.TheVariants.{CeilingMayEndHold, NoWayOut}
 use Rattle.warnings.specs.declared.bounds.Bounds.{Bounds}
@@ -40,4 +40,4 @@ no_changes plan table found e i l g a none =
   where
     no_way : has_no_way_out plan table i ≡ true
     no_way =
-        and_from (is_unmarked plan i) (list_all (λ (c : Change). is_never_allowed (most_shown plan table i) c.guard) (stage_of plan i).changes) (and_from (not (stage_of plan i).goal) (not (stage_of plan i).avoid) (not_from_false (stage_of plan i).goal g) (not_from_false (stage_of plan i).avoid a)) (ap (list_all (λ (c : Change). is_never_allowed (most_shown plan table i) c.guard)) none)
+        and_from (is_unmarked plan i) (list_all (change_is_never_possible plan table i) (stage_of plan i).changes) (and_from (not (stage_of plan i).goal) (not (stage_of plan i).avoid) (not_from_false (stage_of plan i).goal g) (not_from_false (stage_of plan i).avoid a)) (ap (list_all (change_is_never_possible plan table i)) none)

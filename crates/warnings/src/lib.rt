@@ -14,6 +14,7 @@ ghost use Rattle.warnings.specs.declared.bounds.Bounds.{Bounds};
 
 pub mod bounds;
 mod closed;
+mod contradiction;
 mod hold;
 mod leaving;
 mod limit;

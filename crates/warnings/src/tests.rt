@@ -14,6 +14,8 @@ const Y: u8 = 1;
 
 const RESETS_X: u16 = 1;
 
+const RESETS_Y: u16 = 2;
+
 const RESETS_BOTH: u16 = 3;
 
 // Makers of rows. A comparison is of one timer.
@@ -27,6 +29,10 @@ fn above(timer: u8, seconds: u16) -> ComparisonRow {
 
 fn at_most(timer: u8, seconds: u16) -> ComparisonRow {
     comparison(2, timer, seconds)
+}
+
+fn below(timer: u8, seconds: u16) -> ComparisonRow {
+    comparison(3, timer, seconds)
 }
 
 fn comparison(kind: u8, timer: u8, seconds: u16) -> ComparisonRow {
@@ -181,6 +187,74 @@ fn a_guard_above_the_hold_is_no_way_out(rt: HostRuntime) -> Result<(), AllocErro
     );
     assert_eq!(rt;
         guarded(rt.alloc(), at_least(X, 10))?.as_slice(),
+        [].as_slice()
+    );
+    Ok(())
+}
+
+// Stage 0 holds by the first comparison and changes by the two others, back to itself with both
+// timers at zero.
+fn guarded_twice(
+    heap: Global,
+    comparisons: &[ComparisonRow; 3],
+) -> Result<Vec<Warning>, AllocError> {
+    warned_of(
+        heap,
+        Rows {
+            comparisons,
+            stages: &[stage(0, 0, 1, 0, 1)],
+            changes: &[change(1, 2, 0, 1)],
+            outcomes: &[outcome(0, RESETS_BOTH)],
+            goal: ALWAYS,
+        },
+    )
+}
+
+#[test]
+fn a_guard_that_contradicts_itself_is_no_way_out(rt: HostRuntime) -> Result<(), AllocError> {
+    let crossed = [at_most(X, 10), at_least(X, 5), at_most(X, 3)];
+    assert_eq!(rt;
+        guarded_twice(rt.alloc(), &crossed)?.as_slice(),
+        [Warning::NoWayOut { stage: 0 }].as_slice()
+    );
+    let of_two_timers = [at_most(X, 10), at_least(X, 5), at_most(Y, 3)];
+    assert_eq!(rt;
+        guarded_twice(rt.alloc(), &of_two_timers)?.as_slice(),
+        [].as_slice()
+    );
+    let one_moment = [at_most(X, 10), at_least(X, 5), at_most(X, 5)];
+    assert_eq!(rt;
+        guarded_twice(rt.alloc(), &one_moment)?.as_slice(),
+        [].as_slice()
+    );
+    Ok(())
+}
+
+// Stage 0 holds by x ≤ 10 and changes at once to stage 1 with these resets. Stage 1 holds by
+// x < 4, and changes from x ≥ 4 on, back to stage 0 with both timers at zero.
+fn left_past_its_hold(heap: Global, resets: u16) -> Result<Vec<Warning>, AllocError> {
+    warned_of(
+        heap,
+        Rows {
+            comparisons: &[at_most(X, 10), below(X, 4), at_least(X, 4)],
+            stages: &[stage(0, 0, 1, 0, 1), stage(0, 1, 1, 1, 1)],
+            changes: &[change(0, 0, 0, 1), change(2, 1, 1, 1)],
+            outcomes: &[outcome(1, resets), outcome(0, RESETS_BOTH)],
+            goal: ALWAYS,
+        },
+    )
+}
+
+#[test]
+fn a_guard_past_the_hold_is_no_way_out_unless_it_is_met_on_arrival(
+    rt: HostRuntime,
+) -> Result<(), AllocError> {
+    assert_eq!(rt;
+        left_past_its_hold(rt.alloc(), RESETS_BOTH)?.as_slice(),
+        [Warning::NoWayOut { stage: 1 }].as_slice()
+    );
+    assert_eq!(rt;
+        left_past_its_hold(rt.alloc(), RESETS_Y)?.as_slice(),
         [].as_slice()
     );
     Ok(())

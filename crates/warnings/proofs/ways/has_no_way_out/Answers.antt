@@ -5,16 +5,15 @@ use Rattle.std.proofs.lemmas.Iterator.Search.{all_from_yields_List}
 use Rattle.std.proofs.lemmas.List.Folds.{list_all-map}
 use Rattle.offers.specs.Known.{plan_of, rows_of}
 use Rattle.rows.specs.declared.tables.ChangeRow.{ChangeRow}
-use Rattle.runs.specs.Plans.{Change, stage_of}
+use Rattle.runs.specs.Plans.{stage_of}
 use Rattle.runs.specs.Tables.{change_of_row}
-use Rattle.warnings.specs.Arrivals.{most_shown}
-use Rattle.warnings.specs.Warned.{is_never_allowed, is_unmarked}
+use Rattle.warnings.specs.Warned.{change_is_never_possible, is_unmarked}
 use Rattle.warnings.proofs.ways.has_no_way_out.Goals as goal
 
 pub returns-then-is_unmarked : goal.returns-then-is_unmarked
 returns-then-is_unmarked c =
     let p = plan_of c.args.plan.now in
-    let test = λ (x : Change). is_never_allowed (most_shown p c.args.table.now c.args.stage) x.guard in
+    let test = change_is_never_possible p c.args.table.now c.args.stage in
     let rows = c.changes.result.now in
     let told = all_from_yields_List (λ (row : ChangeRow). test (change_of_row (rows_of c.args.plan.now) row)) _ _ c.all.result c.all.ensures.ran (YieldsList-from_slice rows cc) (λ x b q k. search (rules, tests)) in
     let listed = list_all-map test (change_of_row (rows_of c.args.plan.now)) rows in
