@@ -15,7 +15,7 @@ loop-line-preserved c =
     let asks : Asks c.in-Some.line.now c.in_ok-asked.asked = search rules in
     let more = EachFor-append Asks (map (λ (x : Bor (List ℕ)). x.now) c.loop-line.yielded) c.loop-line.calls.items c.in-Some.line.now c.in_ok-asked.asked c.loop-line.invariant.0 asks in
     let all : EachFor Asks (map (λ (x : Bor (List ℕ)). x.now) (c.loop-line.yielded ++ c.in-Some.line ∷ [])) c.push.new.self.items =
-        rw (map-append (λ (x : Bor (List ℕ)). x.now) c.loop-line.yielded (c.in-Some.line ∷ []), c.in_ok-push.ensures.items) more in
+    rw (map-append (λ (x : Bor (List ℕ)). x.now) c.loop-line.yielded (c.in-Some.line ∷ []), c.in_ok-push.ensures.items) more in
     (all, search rules)
 
 pub returns-clause-asked : goal.returns-clause-asked
