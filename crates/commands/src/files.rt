@@ -90,7 +90,7 @@ fn refused(
     }
     Ok(match kind {
         Some(kind) => anyhow!("{path} is no plan file: {kind}"),
-        None => anyhow!("the plan {path} is refused: {}", Refused(fault)),
+        None => anyhow!("the plan {path} is {}", Refused(fault)),
     })
 }
 
