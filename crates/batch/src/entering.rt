@@ -13,8 +13,8 @@ use logs::Log;
 use schedulers::sampled::Sampled;
 
 impl Job<'_> {
-    // Makes all runs of an identifier's sampled scheduler, and enters its row. Tells what is left of
-    // the allowance.
+    // Makes all runs of an identifier's sampled scheduler, and enters its row. Tells what is left
+    // of the allowance.
     fn enter_row<D: DrawSource, W: Watch>(
         &self,
         source: &mut D,

@@ -4,4 +4,5 @@ pub mod Options
 pub mod Replays
 pub mod Sources
 pub mod Walks
+pub mod Warned
 pub mod Words

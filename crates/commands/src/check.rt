@@ -1,11 +1,8 @@
 // What a plan file says.
 ghost use Rattle.std.specs.Prelude.{IfOk};
 ghost use Rattle.runs.specs.Tables.{plan_in};
-ghost use Rattle.warnings.specs.Promised.{AStageWarnedAsWithoutAWayOutOffersNothing};
-ghost use Rattle.warnings.specs.Promised.{AStageWithoutChangesIsWarned};
-ghost use Rattle.warnings.specs.Promised.{WhereNothingIsWarnedAHigherCeilingLetsNoRunStayLonger};
-ghost use Rattle.warnings.specs.Promised.{WhereNothingIsWarnedTheHoldEndsBeforeTheCeiling};
 ghost use Rattle.commands.specs.Files.{rows_read};
+ghost use Rattle.commands.specs.Warned.{WarnsWell};
 
 use crate::failure::Failure;
 use crate::files::PlanFile;
@@ -20,16 +17,7 @@ use warnings::{Warning, warnings};
 
 // The warnings of the plan of a file.
 fn warnings_of(heap: Global, file: &PlanFile) -> Result<Vec<Warning>, AllocError>
-    ensures where_nothing_is_warned_the_hold_ends_before_the_ceiling { let plan = plan_in (rows_read file.now) in
-        IfOk result (λ found.
-        WhereNothingIsWarnedTheHoldEndsBeforeTheCeiling plan found.items) }
-    ensures where_nothing_is_warned_a_higher_ceiling_lets_no_run_stay_longer { let plan = plan_in (rows_read file.now) in
-        IfOk result (λ found.
-        WhereNothingIsWarnedAHigherCeilingLetsNoRunStayLonger plan found.items) }
-    ensures a_stage_warned_as_without_a_way_out_offers_nothing { let plan = plan_in (rows_read file.now) in
-        IfOk result (λ found. AStageWarnedAsWithoutAWayOutOffersNothing plan found.items) }
-    ensures a_stage_without_changes_is_warned { let plan = plan_in (rows_read file.now) in
-        IfOk result (λ found. AStageWithoutChangesIsWarned plan found.items) }
+    ensures { IfOk result (λ found. WarnsWell (plan_in (rows_read file.now)) found.items) }
 {
     warnings(heap, Plan::of_tables(file.handed()))
 }

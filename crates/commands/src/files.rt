@@ -28,7 +28,7 @@ impl PlanFile {
     ghost use Rattle.commands.specs.Files.{FileOf, ReadAs, rows_read};
 
     // Reads a plan file: what it answers is the plan of some bytes, and no contract can say that
-    // they are those of the path. The rule that a refused one breaks is printed, unless it is a text.
+    // they are those of the path. The rule that a refused one breaks is printed, but of a text.
     pub fn open(rt: &HostRuntime, path: &str) -> anyhow::Result<PlanFile>
         ensures { IfOk result (λ file. (bytes : List ℕ) × FileOf bytes (rows_read file)) }
     {

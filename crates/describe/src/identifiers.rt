@@ -1,6 +1,7 @@
 // Identifiers of schedulers in words: `0..9`, or `3,5,8`.
 ghost use Rattle.std.specs.Prelude.{◌≡◌, ℕ, ◌<◌, ◌≤◌, List, length, IfOk, MatchOption};
-ghost use Rattle.describe.specs.Identifiers.{AllDiffer, IsListedTwice, Lists, numbers_from_to, parts_of};
+ghost use Rattle.describe.specs.Identifiers.{AllDiffer, IsListedTwice, Lists, numbers_from_to};
+ghost use Rattle.describe.specs.Identifiers.{parts_of};
 ghost use Rattle.describe.specs.Words.{WriteAll};
 
 use crate::numbers::number;

@@ -1,7 +1,7 @@
-// Measures how evenly the first draws of neighbouring rows are spread, mixed and by the congruential
-// rule: of the rows 0 to 999, how many begin below a tenth and below a half of all draws. Of evenly
-// spread draws 100 and 500 are expected, with standard errors of 9.49 and 15.81, so that within four
-// of them lie 63 to 137 and 437 to 563.
+// Measures how evenly the first draws of neighbouring rows are spread, mixed and by the
+// congruential rule: of the rows 0 to 999, how many begin below a tenth and below a half of all
+// draws. Of evenly spread draws 100 and 500 are expected, with standard errors of 9.49 and 15.81,
+// so that within four of them lie 63 to 137 and 437 to 563.
 #![tactic(auto)]
 
 ghost use Rattle.std.specs.Prelude.{◌≤◌};

@@ -2,7 +2,8 @@
 ghost use Rattle.std.specs.Prelude.{◌≡◌, map};
 ghost use Rattle.runs.specs.Tables.{comparison_of_row};
 ghost use Rattle.runs.specs.Typed.{relation_in};
-ghost use Rattle.warnings.specs.Warned.{contradicts_itself, is_ruled_out_by, leaves_no_room, never_both};
+ghost use Rattle.warnings.specs.Warned.{contradicts_itself, is_ruled_out_by, leaves_no_room};
+ghost use Rattle.warnings.specs.Warned.{never_both};
 
 use rows::reading::{Relation, Subject};
 use rows::tables::ComparisonRow;

@@ -4,7 +4,8 @@ ghost use Rattle.offers.specs.Known.{plan_of, rows_of};
 ghost use Rattle.runs.specs.Plans.{stage_of};
 ghost use Rattle.runs.specs.Tables.{change_of_row, comparison_of_row};
 ghost use Rattle.warnings.specs.Arrivals.{most_shown};
-ghost use Rattle.warnings.specs.Warned.{change_is_never_possible, contradicts_hold, has_no_way_out, is_never_allowed, most_on_arrival, too_low};
+ghost use Rattle.warnings.specs.Warned.{change_is_never_possible, contradicts_hold, has_no_way_out};
+ghost use Rattle.warnings.specs.Warned.{is_never_allowed, most_on_arrival, too_low};
 
 use crate::bounds::Bounds;
 use crate::contradiction::{contradicts_itself, is_ruled_out_by};
