@@ -1,3 +1,4 @@
+pub mod Failures
 pub mod Files
 pub mod Openings
 pub mod Options

@@ -1,6 +1,4 @@
 // Why a command was not carried out.
-ghost use Rattle.std.specs.Prelude.{◌≤◌};
-
 use std::alloc::AllocError;
 use std::io;
 
@@ -37,10 +35,12 @@ impl From<AllocError> for Failure {
 }
 
 impl Failure {
+    ghost use Rattle.commands.specs.Failures.{IsStatusOf};
+
     // Tells it, and answers the status with which the program ends. Help goes to standard output,
     // and has the status 0.
     pub fn told(&self, rt: &HostRuntime) -> u8
-        ensures { result ≤ 2 }
+        ensures { IsStatusOf self.now result }
     {
         match self {
             Failure::Line(error) => {

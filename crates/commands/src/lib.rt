@@ -1,8 +1,6 @@
 // The commands of the program: what is asked for on the command line, done and printed.
 #![tactic(auto)]
 
-ghost use Rattle.std.specs.Prelude.{◌≤◌};
-
 mod batches;
 mod check;
 mod command;
@@ -38,9 +36,7 @@ fn carried_out(rt: &HostRuntime, words: &[String]) -> Result<(), Failure> {
 // Does what the words of a command line ask for, and tells on standard error where it fails.
 // Answers the status with which the program ends: 0, 1 where the work failed or was refused, 2
 // where the words are wrong.
-pub fn answer(rt: &HostRuntime, words: &[String]) -> u8
-    ensures { result ≤ 2 }
-{
+pub fn answer(rt: &HostRuntime, words: &[String]) -> u8 {
     match carried_out(rt, words) {
         Ok(()) => 0,
         Err(failure) => failure.told(rt),
@@ -48,9 +44,7 @@ pub fn answer(rt: &HostRuntime, words: &[String]) -> u8
 }
 
 // Does what the program's own command line asks for, and answers its status likewise.
-pub fn answer_line(rt: &HostRuntime) -> u8
-    ensures { result ≤ 2 }
-{
+pub fn answer_line(rt: &HostRuntime) -> u8 {
     match given_words(rt) {
         Ok(words) => answer(rt, &words),
         Err(error) => Failure::Words(error).told(rt),
