@@ -1,6 +1,6 @@
 -- Rows that join a log one after the other.
 use Rattle.std.proofs.Common.{◌≡◌, ℕ, ◌+◌, ◌<◌, ◌≤◌, List, [], ◌∷◌, ◌++◌, length, get_or, take, drop, fold, sym, ap, ◌∙◌, subst, append_assoc, arith, length-append}
-use Rattle.std.proofs.lemmas.List.{drop-drop, length-drop, length-take}
+use Rattle.std.proofs.lemmas.List.{drop-drop, length-drop, length-take, take_all}
 use Rattle.std.proofs.lemmas.List.Sums.{fold_more}
 use Rattle.logs.specs.Logs.{entries_of, past_of}
 use Rattle.runs.specs.Plans.{Plan}
@@ -55,3 +55,8 @@ pub room_left : (plan : Plan) (book : Book) (draws₀ : Draws) (limits : Limits)
 room_left plan book draws₀ limits ids i log log' left draws l room h =
     let n = length (all_made plan book draws₀ limits (take i ids)).rows in
     omega (arith, ap length h.joined.past, length-drop n (past_of log), rows_made plan book draws₀ limits (take i ids), length-take i ids)
+
+-- at the end the rows of all have joined
+pub entered_all : (plan : Plan) (book : Book) (draws₀ : Draws) (limits : Limits) (ids : List ℕ) (i : ℕ) (log log' : Log BatchRow) (left : ℕ) (draws : Draws) → length ids ≤ i → Entered (all_made plan book draws₀ limits (take i ids)) log log' left draws → Entered (all_made plan book draws₀ limits ids) log log' left draws
+entered_all plan book draws₀ limits ids i log log' left draws l h =
+    subst (λ (xs : List ℕ). Entered (all_made plan book draws₀ limits xs) log log' left draws) (take_all i ids l) h

@@ -1,3 +1,4 @@
+mod Admitted
 mod Alone
 mod Counts
 mod Joining

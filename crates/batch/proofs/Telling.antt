@@ -49,7 +49,7 @@ by_steps plan f (suc n) run = go (is_ok (step_call plan f run).0) refl (by_steps
     go false e h = record { no_more = omega arith; its_steps = refl; granted = tt; then_refused = λ l. e }
 
 -- the steps of every run of a batch tell a tick run
-every_run_tells : (plan : Plan) (book : Book) → Sound plan → ((row : ℕ) → DrawsFit (book row)) → EveryRunOfABatchTellsATickRun plan book
+pub every_run_tells : (plan : Plan) (book : Book) → Sound plan → ((row : ℕ) → DrawsFit (book row)) → EveryRunOfABatchTellsATickRun plan book
 every_run_tells plan book sound fit f n j =
     let h = by_steps plan f n (opening plan (book j)) in
     record {

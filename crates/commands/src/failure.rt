@@ -2,18 +2,12 @@
 use std::alloc::AllocError;
 use std::io;
 
-// The line is help, or wrong by its form; a word is wrong by what it says; or the work failed.
+// The line is wrong by its form, or a word by what it says; or the work failed.
 #[derive(Drop)]
 pub enum Failure {
     Line(clap::Error),
     Words(anyhow::Error),
     Work(anyhow::Error),
-}
-
-impl From<clap::Error> for Failure {
-    fn from(error: clap::Error) -> Failure {
-        Failure::Line(error)
-    }
 }
 
 impl From<anyhow::Error> for Failure {
@@ -37,8 +31,8 @@ impl From<AllocError> for Failure {
 impl Failure {
     ghost use Rattle.commands.specs.Failures.{IsStatusOf};
 
-    // Tells it, and answers the status with which the program ends. Help goes to standard output,
-    // and has the status 0.
+    // Tells it, and answers the status with which the program ends. A line that asks for help would
+    // be no failure, and have the status 0.
     pub fn told(&self, rt: &HostRuntime) -> u8
         ensures { IsStatusOf self.now result }
     {

@@ -15,13 +15,46 @@ mod sources;
 mod walk;
 mod words;
 
+ghost use Rattle.std.specs.Prelude.{◌≡◌, IfErr, IfOk, is_ok};
+ghost use Rattle.commands.specs.Failures.{IsStatusOf, IsWrongLine};
+ghost use Rattle.commands.specs.declared.failure.Failure.TheVariants.{Line};
+
 use crate::failure::Failure;
 use crate::line::command_line;
 use crate::words::given_words;
+use std::io;
+
+// What comes of help that was to be printed. Where it is not written, the work failed.
+fn written(help: io::Result<()>) -> Result<(), Failure>
+    ensures told { is_ok result ≡ is_ok help }
+    ensures failed_work { IfErr result (λ failure. IsStatusOf failure 1) }
+{
+    match help {
+        Ok(()) => Ok(()),
+        Err(error) => Err(Failure::Work(anyhow::Error::from(error))),
+    }
+}
+
+// Prints help or the version, where that is asked for; else the line is wrong.
+fn print_help(rt: &HostRuntime, asked: clap::Error) -> Result<(), Failure>
+    ensures help_alone { IfOk result (λ _. IsWrongLine asked → ⊥) }
+    ensures help_is_no_wrong_line { IfErr result (λ failure. (IsWrongLine asked → ⊥)
+        → IsStatusOf failure 1) }
+    ensures a_wrong_line_is_told { IfErr result (λ failure. IsWrongLine asked
+        → failure ≡ Line asked) }
+{
+    if asked.use_stderr() {
+        return Err(Failure::Line(asked));
+    }
+    written(asked.print(rt))
+}
 
 // Does what the words of a command line ask for, the first of which is the program's name.
 fn carried_out(rt: &HostRuntime, words: &[String]) -> Result<(), Failure> {
-    let matches = command_line(rt.alloc())?.try_get_matches_from(words)?;
+    let matches = match command_line(rt.alloc())?.try_get_matches_from(words) {
+        Ok(matches) => matches,
+        Err(asked) => return print_help(rt, asked),
+    };
     match matches.subcommand() {
         Some(("batch", given)) => batches::run_batch(rt, given),
         Some(("check", given)) => check::check(rt, given),

@@ -74,6 +74,7 @@ fn with_draws<'a>(heap: Global, command: Command<'a>) -> Result<Command<'a>, All
         "FILE",
         "take the draws from a file of numbers below 2^32",
     )
+    .allow_hyphen_values(true)
     .conflicts_with("seed")?
     .conflicts_with("source")?;
     let row_length = valued(

@@ -7,5 +7,6 @@ pub mod Lowest
 pub mod Parts
 pub mod PlainText
 pub mod PlanFiles
+pub mod Signs
 pub mod Told
 pub mod WordLists

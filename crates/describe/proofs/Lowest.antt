@@ -4,9 +4,9 @@ use Prim.Native.Nat.{◌∣◌}
 use Rattle.std.specs.Int.{IsGcd}
 use native.Mathlib.Nat.{dvd_of_mul-dvd-mul_left, eq-one_of_dvd-one, lt_of_mul-lt-mul_left, mul-div_cancel', mul-dvd-mul_left, pos_of_dvd_of_pos, div-add-mod}
 
--- the whole and the fraction are the same time, the fraction is below one, and only 1 divides both of its parts
-pub lowest : (steps per d : ℕ) → 0 < per → IsGcd per (steps % per) d → ((steps / per * (per / d) + steps % per / d) * per ≡ steps * (per / d)) × (steps % per / d < per / d) × ((k : ℕ) → k ∣ steps % per / d → k ∣ per / d → k ≡ 1)
-lowest steps per d some g = (same, proper, only_one)
+-- the divisor is some, the whole and the fraction are the same time, the fraction is below one, and only 1 divides both of its parts
+pub lowest : (steps per d : ℕ) → 0 < per → IsGcd per (steps % per) d → (0 < d) × ((steps / per * (per / d) + steps % per / d) * per ≡ steps * (per / d)) × (steps % per / d < per / d) × ((k : ℕ) → k ∣ steps % per / d → k ∣ per / d → k ≡ 1)
+lowest steps per d some g = (above, same, proper, only_one)
   where
     above : 0 < d
     above = pos_of_dvd_of_pos g.0 some

@@ -1,5 +1,5 @@
 -- Where the telling of a history ends.
-use Rattle.std.proofs.Common.{◌≡◌, ℕ, suc, ◌+◌, ◌≤◌, Bool, true, false, not, cond, Some, None, List, [], ◌∷◌, length, take, refl, sym, ap, ◌∙◌, arith}
+use Rattle.std.proofs.Common.{◌≡◌, ℕ, suc, ◌+◌, ◌≤◌, Bool, true, false, not, cond, Some, None, List, [], ◌∷◌, length, take, refl, sym, ap, ◌∙◌, arith, zero, ◌<◌, get_or}
 use Rattle.std.proofs.lemmas.Bool.Decides.{nat_tests}
 use Rattle.std.proofs.lemmas.List.{take_all}
 use Rattle.std.proofs.lemmas.Option.{cond_some}
@@ -36,3 +36,20 @@ told_all es found =
     let past = not_found (ltb (position_or_len ends_with es) (length es)) (position_or_len ends_with es) found in
     let all : length es ≤ suc (position_or_len ends_with es) = grind (arith, nat_tests) in
     sym (take_all _ es all) ∙ told_to_position es
+
+-- none of the first k entries ends the history
+abbrev pub NoneEnds : List Entry → ℕ → Type 0
+NoneEnds es k = (j : ℕ) (d : Entry) → j < k → ends_with (get_or es j d) ≡ false
+
+pub told_to_first : (es : List Entry) (k : ℕ) (d : Entry) → k < length es → NoneEnds es k → ends_with (get_or es k d) ≡ true → take (suc k) es ≡ told_to_the_end es
+told_to_first [] k d h none ends = absurd (omega arith)
+told_to_first (e ∷ es) zero d h none ends = ap (λ b. e ∷ cond b [] (told_to_the_end es)) (sym ends)
+told_to_first (e ∷ es) (suc k) d h none ends =
+    ap (λ xs. e ∷ xs) (told_to_first es k d (omega arith) (λ j x l. none (suc j) x (omega arith)) ends)
+    ∙ ap (λ b. e ∷ cond b [] (told_to_the_end es)) (sym (none 0 d (omega arith)))
+
+pub told_none_ends : (es : List Entry) → NoneEnds es (length es) → es ≡ told_to_the_end es
+told_none_ends [] none = refl
+told_none_ends (e ∷ es) none =
+    ap (λ xs. e ∷ xs) (told_none_ends es (λ j x l. none (suc j) x (omega arith)))
+    ∙ ap (λ b. e ∷ cond b [] (told_to_the_end es)) (sym (none 0 e (omega arith)))

@@ -1,5 +1,5 @@
 -- The turns of the loops over the rows of outcomes.
-use Rattle.std.proofs.Common.{◌≡◌, ℕ, suc, ◌+◌, ◌-◌, ◌^◌, ◌<◌, ◌≤◌, List, length, get_or, drop, Option, Some, None, ap, ◌∙◌, arith}
+use Rattle.std.proofs.Common.{◌≡◌, ℕ, suc, ◌+◌, ◌-◌, ◌^◌, ◌<◌, ◌≤◌, List, length, get_or, drop, Option, Some, None, ap, ◌∙◌, arith, ◌&&◌, leb}
 use Rattle.std.proofs.lemmas.List.{at_drop_all, get_or-map, length-map}
 use Rattle.std.proofs.lemmas.Bool.Decides.{nat_tests}
 use Rattle.std.specs.Prelude.{MatchOption}
@@ -13,6 +13,7 @@ use Rattle.runs.specs.Ticks.{ticket}
 use Rattle.runs.proofs.Loops.{weights_more, weights_all, picked_at, picked_after}
 use Rattle.runs.proofs.Picking.{picked_nil, picked_picks, ticket_fits}
 use Rattle.draws.specs.Tickets.{outcomes_in, allowed, picked_with, pick_by}
+use Rattle.std.proofs.lemmas.Bool.{and_right, cond-false, lt-leb, and_left}
 
 pub in_view : (p : PlanRows) (rows : List OutcomeRow) (i : ℕ) → i < length rows → i < length (outcomes_in p rows)
 in_view p rows i h = omega (arith, length-map rows (outcome_of_row p))
@@ -60,3 +61,12 @@ picked_whole p rows g sum t None h e is k =
     let s : (weights (outcomes_in p rows) ≡ sum) × (1 ≤ weights (outcomes_in p rows)) = sum_allowed (weights (outcomes_in p rows)) sum e in
     let below : t < weights (outcomes_in p rows) = omega (arith, ticket_fits g sum h (omega arith)) in
     absurd (omega (arith, (picked_picks (outcomes_in p rows) t below).an_outcome, length-map rows (outcome_of_row p)))
+
+-- no weight at all is not, and more is not either
+pub no_weight : (all : ℕ) → all ≡ 0 → allowed all ≡ None
+no_weight all none =
+    cond-false (leb 1 all && leb all 65535) (Some all) None (and_left (leb 1 all) (leb all 65535) (lt-leb 1 all (omega arith)))
+
+pub too_heavy : (all : ℕ) → 65535 < all → allowed all ≡ None
+too_heavy all many =
+    cond-false (leb 1 all && leb all 65535) (Some all) None (and_right (leb 1 all) (leb all 65535) (lt-leb all 65535 many))

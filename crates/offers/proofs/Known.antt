@@ -1,5 +1,5 @@
 -- What is known of a checked plan's rows, and the steps of a loop over its timers.
-use Rattle.std.proofs.Common.{◌≡◌, ℕ, suc, ◌+◌, ◌-◌, ◌*◌, ◌<◌, ◌≤◌, min, true, ◌⊎◌, List, length, get_or, drop, ap, ◌∙◌, inl, inr, arith}
+use Rattle.std.proofs.Common.{◌≡◌, ℕ, suc, ◌+◌, ◌-◌, ◌*◌, ◌<◌, ◌≤◌, min, true, ◌⊎◌, List, length, get_or, drop, ap, ◌∙◌, inl, inr, arith, [], ◌∷◌, map, take, sym, refl}
 use Rattle.std.proofs.ByRecursion.{All-get_or}
 use Rattle.std.proofs.lemmas.List.{get_or-map, get_or_past, length-map}
 use Rattle.std.proofs.lemmas.Bool.{cases_lt}
@@ -8,7 +8,7 @@ use Rattle.rows.specs.declared.tables.StageRow.{StageRow}
 use Rattle.rows.specs.declared.tables.TimerRow.{TimerRow}
 use Rattle.rows.specs.Plans.{PlanRows}
 use Rattle.rows.specs.Sound.{SoundStage}
-use Rattle.rows.specs.Verdicts.{faultless, no_stage, no_timer}
+use Rattle.rows.specs.Verdicts.{faultless, no_stage, no_timer, no_goal}
 use Rattle.rows.proofs.Soundness.{sound_from_faultless}
 use Rattle.theory.specs.Records.{Record, count, timer_no}
 use Rattle.theory.specs.Regions.{Comparison}
@@ -16,6 +16,10 @@ use Rattle.runs.specs.Runs.{Span, cuts, room, upto}
 use Rattle.runs.proofs.Allowed.{cuts_narrow}
 use Rattle.runs.proofs.Permits.{room_all, room_more}
 use Rattle.offers.specs.Known.{ceilings_in}
+use Rattle.rows.specs.declared.tables.ComparisonRow.{ComparisonRow}
+use Rattle.rows.specs.declared.tables.GoalRow.{GoalRow}
+use Rattle.runs.specs.Plans.{blank_stage, stage_of}
+use Rattle.runs.specs.Tables.{comparison_of_row, comparisons_of, goal_of, plan_in, stage_of_row}
 
 pub some_timer : (p : PlanRows) → faultless p ≡ true → 0 < length p.timers
 some_timer p s = (sound_from_faultless p s).enough Timers
@@ -55,3 +59,18 @@ no_more_timers r timers i best h =
 pub until_narrowed : (r : Record) (cs : List Comparison) (w : ℕ) (x y : Span) → x ≡ upto w → y ≡ cuts r cs x → y.until ≤ w + 1
 until_narrowed r cs w x y e f =
     omega (arith, (cuts_narrow r cs x).1, ap (λ z. z.until) e, ap (λ z. z.until) f)
+
+-- the row of a stage that the plan does not have
+pub stage_missing : (p : PlanRows) (i : ℕ) → length p.stages ≤ i → stage_of_row p no_stage ≡ stage_of (plan_in p) i
+stage_missing p i h = sym (get_or_past (map (stage_of_row p) p.stages) i blank_stage (omega (arith, length-map p.stages (stage_of_row p))))
+
+pub stage_row_sound : (p : PlanRows) (i : ℕ) → faultless p ≡ true → i < length p.stages → SoundStage p (get_or p.stages i no_stage)
+stage_row_sound p i s h = All-get_or (SoundStage p) p.stages i no_stage h (sound_from_faultless p s).stages
+
+goal_first : (p : PlanRows) (gs : List GoalRow) → 0 < length gs → comparisons_of p (get_or gs 0 no_goal).first (get_or gs 0 no_goal).comparisons ≡ goal_of p gs
+goal_first p [] h = absurd (omega arith)
+goal_first p (g ∷ gs) h = refl
+
+-- the comparisons of the goal are those of the first goal row
+pub goal_by_part : (p : PlanRows) (part : List ComparisonRow) → faultless p ≡ true → part ≡ take (get_or p.goals 0 no_goal).comparisons (drop (get_or p.goals 0 no_goal).first p.comparisons) → map comparison_of_row part ≡ (plan_in p).goal
+goal_by_part p part s e = ap (map comparison_of_row) e ∙ goal_first p p.goals (some_goal p s)

@@ -1,6 +1,6 @@
 -- One more offer in a list, and the steps of a loop over changes.
-use Rattle.std.proofs.Common.{◌≡◌, refl, ℕ, ◌+◌, ◌-◌, ◌<◌, ◌≤◌, true, false, List, [], ◌∷◌, ◌++◌, map, length, get_or, drop, set, replicate, sym, ap, ◌∙◌, arith}
-use Rattle.std.proofs.lemmas.List.{append_assoc, append-nil, drop-drop, drop-replicate, drop-set-lt, get_or-map, length-map}
+use Rattle.std.proofs.Common.{◌≡◌, refl, ℕ, ◌+◌, ◌-◌, ◌<◌, ◌≤◌, true, false, List, [], ◌∷◌, ◌++◌, map, length, get_or, drop, set, replicate, sym, ap, ◌∙◌, arith, take}
+use Rattle.std.proofs.lemmas.List.{append_assoc, append-nil, drop-drop, drop-replicate, drop-set-lt, get_or-map, length-map, length-drop, length-take}
 use Rattle.rows.specs.declared.tables.ChangeRow.{ChangeRow}
 use Rattle.rows.specs.Plans.{PlanRows}
 use Rattle.rows.specs.Verdicts.{no_change}
@@ -9,6 +9,7 @@ use Rattle.runs.specs.declared.Offer.{Offer}
 use Rattle.runs.specs.Runs.{any_in, blank_offer, guard_span, offer_of, offers_from}
 use Rattle.runs.specs.Tables.{change_of_row}
 use Rattle.runs.proofs.Loops.{offers_from_all, offers_from_more_none, offers_from_more_some}
+use Rattle.runs.specs.Plans.{Change}
 
 -- past one more offer the items are blank still
 pub blank_after : (items : List Offer) (n : ℕ) (x : Offer) → drop n items ≡ replicate (128 - n) blank_offer → drop (n + 1) (set items n x) ≡ replicate (128 - (n + 1)) blank_offer
@@ -37,3 +38,16 @@ pub no_more_changes : (r : Record) (last c : ℕ) (p : PlanRows) (rows : List Ch
 no_more_changes r last c p rows i os h =
     ap (λ z. os ++ z) (offers_from_all r last c (map (change_of_row p) rows) i (omega (arith, length-map rows (change_of_row p))))
     ∙ append-nil os
+
+-- a loop over change rows: its start
+pub no_offers_yet : (r : Record) (last c : ℕ) (xs : List Change) (os : List Offer) → os ≡ [] → os ++ offers_from r last (c + 0) (drop 0 xs) ≡ offers_from r last c xs
+no_offers_yet r last c xs os e =
+    let n : c + 0 ≡ c = omega arith in ap (λ z. z ++ offers_from r last (c + 0) (drop 0 xs)) e ∙ ap (λ k. offers_from r last k xs) n
+
+-- where n rows from the row `first` on stand
+pub rows_placed : {X : Type 0} (rows part : List X) (first n : ℕ) → part ≡ take n (drop first rows) → first ≤ 65535 → length rows ≤ 1024 → n ≤ 128 → (length part ≤ 128) × (first + length part ≤ 65535)
+rows_placed rows part first n e f l h =
+    let k : length part ≡ length (take n (drop first rows)) = ap length e in
+    let a = length-take n (drop first rows) in
+    let b = length-drop first rows in
+    (omega arith, omega arith)

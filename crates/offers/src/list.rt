@@ -1,5 +1,5 @@
 // Lists of offers.
-ghost use Rattle.std.specs.Prelude.{◌≡◌, ◌-◌, ◌<◌, ◌≤◌, [], ◌∷◌, ◌++◌, length, drop, replicate, ◌==◌};
+ghost use Rattle.std.specs.Prelude.{◌≡◌, ◌-◌, ◌<◌, ◌≤◌, [], ◌∷◌, ◌++◌, length, drop, replicate, ◌==◌, MatchOption};
 ghost use Rattle.runs.specs.Runs.{blank_offer};
 
 use rows::tables::MOST_CHANGES;
@@ -28,6 +28,21 @@ impl OfferList {
             items: [Offer::default(); MOST],
             len: 0,
         }
+    }
+
+    // The list of these offers, in order; none where there are more than a list holds.
+    pub fn of(offers: &[Offer]) -> Option<OfferList>
+        ensures { MatchOption result (128 < length offers.now)
+            (λ list. listed list ≡ offers.now) }
+    {
+        if offers.len() > MOST {
+            return None;
+        }
+        let mut list = OfferList::none();
+        for offer in offers {
+            list.push(*offer);
+        }
+        Some(list)
     }
 
     // The offers, in order.

@@ -258,4 +258,6 @@ fn a_list_tells_the_offers_that_were_pushed(rt: HostRuntime) {
     list.push(late);
     assert_eq!(rt; list.len(), 2);
     assert_eq!(rt; list.as_slice().last().copied(), Some(late));
+    assert_eq!(rt; OfferList::of(&[Offer::default(), late]), Some(list));
+    assert_eq!(rt; OfferList::of(&[late; 129]), None);
 }

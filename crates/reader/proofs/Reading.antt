@@ -171,3 +171,10 @@ filled_read b p before later n h filled sizes e =
       same_sizes = sizes;
       kept = filled_past p before later filled;
     })
+
+-- the bytes of a section, as the code holds them, are whole records and fit the table
+pub part_fits : {R : Type 0} (row : List ℕ → ℕ → R) (size : ℕ) (b d : List ℕ) (room : ℕ) → b ≡ d → Records size d → length (rows_in row size d) ≤ room → Records size b × (length b / size ≤ room)
+part_fits row size b d room e whole fits = (
+  subst (λ (z : List ℕ). Records size z) (sym e) whole,
+  subst (λ (z : List ℕ). length z / size ≤ room) (sym e) (omega (arith, length_rows_in row size d)),
+)

@@ -1,17 +1,18 @@
 -- The live classes of a reset, the places that they leave to the timers, and the record after it.
 use Rattle.std.proofs.Common.{◌≡◌, ℕ, ◌+◌, ◌^◌, ◌<◌, ◌≤◌, Bool, true, false, cond, ◌&&◌, eqb, leb, ◌≢◌, List, [], ◌∷◌, ◌++◌, map, length, get_or, take, set, Ok, Err, sym, ap, ◌∙◌, ⊎_elim, add-one, arith, below_more}
 use Rattle.std.proofs.lemmas.List.{get_or-set_same, get_or-set_other, length-map, length-take-le, map_more, map_push, take_more_set}
-use Rattle.std.proofs.lemmas.Bool.{cases_Bool, cases_eq, cond-true, cond-false}
+use Rattle.std.proofs.lemmas.Bool.{cases_Bool, cases_eq, cond-true, cond-false, leb-false}
 use Rattle.std.proofs.lemmas.Bool.Decides.{nat_tests}
 use Rattle.rows.specs.declared.refusal.Refusal.TheVariants.{NotThere}
-use Rattle.theory.specs.Records.{Timer, Record, at_zero, live, ranked, reset}
-use Rattle.theory.specs.Settings.{marked, total, unmarked}
-use Rattle.theory.proofs.Resets.{live_is, ranked_nil, ranked_here, ranked_there}
-use Rattle.theory.proofs.Totals.{total_suc}
+use Rattle.theory.specs.Records.{Timer, Record, at_zero, live, ranked, reset, fresh, reranked}
+use Rattle.theory.specs.Settings.{marked, total, unmarked, any_marked}
+use Rattle.theory.proofs.Resets.{live_is, ranked_nil, ranked_here, ranked_there, reset_some}
+use Rattle.theory.proofs.Totals.{total_suc, total_same}
 use Rattle.region.specs.declared.value.TimerValue.{TimerValue}
-use Rattle.region.specs.Resetting.{bit_no, marks, names_missing, reset_by}
-use Rattle.region.specs.Views.{blank, timer_in}
-use Rattle.region.proofs.Marked.{get_d_written, length_marks, marked_push, marks_more}
+use Rattle.region.specs.Resetting.{bit_no, marks, names_missing, reset_by, Placed}
+use Rattle.region.specs.Views.{blank, timer_in, record_in}
+use Rattle.region.proofs.Marked.{get_d_written, length_marks, marked_push, marks_more, some_named}
+use Rattle.region.proofs.Shown.{length_shown}
 
 module _ (xs places : List ℕ) (j : ℕ) (room : length places ≡ 17) (here : j < 16) where
   pub place_next : get_or (set places (j + 1) (get_or places j 0 + get_or xs j 0)) (j + 1) 0 ≡ get_or places j 0 + get_or xs j 0
@@ -73,3 +74,22 @@ pub reset_answered : (bits m : ℕ) (v v' : Record) → m ≡ length v.timers �
 reset_answered bits m v v' timers there after =
     cond-false (names_missing bits v) (Err NotThere, v) (Ok tt, reset (marks (length v.timers) bits) v) (ap (λ k. leb (2 ^ k) bits) (sym timers) ∙ sym there)
     ∙ ap (λ (x : Record). (Ok tt, x)) after
+
+pub placed_from_live : (xs table : List ℕ) (ms : List Bool) (r : Record) → ((j : ℕ) → j < 16 → get_or xs j 0 ≡ live ms r j) → ((j : ℕ) → j < 17 → get_or table j 0 ≡ 1 + total (λ x. get_or xs x 0) j) → Placed table ms r
+placed_from_live xs table ms r same sums j h =
+    sums j h ∙ ap (λ n. 1 + n) (total_same (λ x. get_or xs x 0) (live ms r) j (λ x l. same x (omega arith)))
+
+pub reset_shown : (ms : List Bool) (v : Record) (k n : ℕ) (ys : List TimerValue) → any_marked ms ≡ true → k ≡ 1 + total (live ms v) v.classes → map timer_in (take n ys) ≡ marked fresh (reranked ms v) ms v.timers → record_in true k n ys ≡ reset ms v
+reset_shown ms v k n ys some classes_are timers_are =
+    (λ i. record { whole = true; classes = classes_are i; timers = timers_are i }) ∙ sym (reset_some ms v some)
+
+-- the row of a timer that is not named and does not stand at zero
+pub row_placed : (ms : List Bool) (v : Record) (t : Timer) (p : ℕ) → at_zero v t.rank ≡ false → p ≡ 1 + total (live ms v) t.rank → record { seconds = t.seconds; rank = p } ≡ reranked ms v t
+row_placed ms v t p above e =
+    λ i. record { seconds = t.seconds; rank = (e ∙ sym (cond-false (at_zero v t.rank) 0 (1 + total (live ms v) t.rank) above)) i }
+
+-- the record after the named timers are set to zero
+pub reset_after : (w : Bool) (k n bits : ℕ) (xs ys : List TimerValue) (table : List ℕ) → n ≤ length xs → leb (2 ^ length (map timer_in (take n xs))) bits ≡ false → (bits ≡ 0 → ⊥) → k ≤ 16 → Placed table (marks n bits) (record_in w k n xs) → map timer_in (take n ys) ≡ marked fresh (reranked (marks n bits) (record_in w k n xs)) (marks n bits) (map timer_in (take n xs)) → record_in true (get_or table k 0) n ys ≡ reset (marks n bits) (record_in w k n xs)
+reset_after w k n bits xs ys table room there some few placed rows_are =
+    let below : bits < 2 ^ n = rw (length_shown n xs room) at (leb-false (2 ^ length (map timer_in (take n xs))) bits there) in
+    reset_shown (marks n bits) (record_in w k n xs) (get_or table k 0) n ys (some_named bits n below some) (placed k (omega arith)) rows_are

@@ -1,5 +1,5 @@
 -- The first fault, found record by record and section by section.
-use Rattle.std.proofs.Common.{◌≡◌, ℕ, suc, ◌+◌, ◌-◌, ◌<◌, ◌≤◌, List, [], ◌∷◌, get_or, drop, None, Err, Ok, Option, Result, IsErrAnd, sym, refl, ap, ◌∙◌, arith}
+use Rattle.std.proofs.Common.{◌≡◌, ℕ, suc, ◌+◌, ◌-◌, ◌<◌, ◌≤◌, List, [], ◌∷◌, get_or, drop, None, Err, Ok, Option, Result, IsErrAnd, sym, refl, ap, ◌∙◌, arith, Some}
 use Rattle.std.proofs.lemmas.List.{at_drop_more, at_drop_all}
 use Rattle.rows.specs.declared.fault.Fault.{Fault}
 use Rattle.rows.specs.declared.fault.Where.TheVariants.{Record, Section}
@@ -64,3 +64,11 @@ no_section look i h = sym (at_drop_all (first_in look) section_names i h ∙ fir
 pub exit_told : {T E : Type 0} {x : E} (r : Result T E) → IsErrAnd r (λ y. y ≡ x) → r ≡ Err x
 exit_told (Ok _) h = absurd h
 exit_told (Err y) h = ap (λ z. Err z) h
+
+pub record_passes : (p : PlanRows) (s : SectionName) (i : ℕ) → None ≡ first_broken (record_rules p s i) → record_fault p s i ≡ None
+unfolding record_fault
+record_passes p s i e = ap (fault_at (Record s i)) (sym e)
+
+pub record_breaks : (p : PlanRows) (s : SectionName) (i : ℕ) (e : Refusal) → Some e ≡ first_broken (record_rules p s i) → record_fault p s i ≡ Some (record { refusal = e; at = Record s i })
+unfolding record_fault
+record_breaks p s i e h = ap (fault_at (Record s i)) (sym h)

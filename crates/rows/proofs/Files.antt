@@ -375,3 +375,31 @@ fault_is_no_plan rooms b f h p sound fits e =
 pub one_plan_a_file : (p q : PlanRows) → file_of p ≡ file_of q → p ≡ q
 one_plan_a_file p q e =
     sym (plan_in_cuts p (file_of p) (file_cuts p)) ∙ ap plan_in e ∙ plan_in_cuts q (file_of q) (file_cuts q)
+
+pub take_word : (n : ℕ) (b : List ℕ) (i : ℕ) → i + 2 ≤ length b → take (suc (suc n)) (drop i b) ≡ take 2 (drop i b) ++ take n (drop (i + 2) b)
+take_word n b i h =
+    let e : i + 1 + 1 ≡ i + 2 = omega arith in
+    at_drop_more (take (suc (suc n))) b i 0 (omega arith)
+    ∙ ap (λ z. get_or b i 0 ∷ z) (at_drop_more (take (suc n)) b (i + 1) 0 (omega arith) ∙ ap (λ j. get_or b (i + 1) 0 ∷ take n (drop j b)) e)
+    ∙ ap (λ z. z ++ take n (drop (i + 2) b)) (sym (take_two b i h))
+
+-- a number and the bytes behind it, put together
+pub word_then : (w : ℕ) (ws : List ℕ) (n : ℕ) (b : List ℕ) (i j : ℕ) → i + 2 ≡ j → j ≤ length b → word w ≡ take 2 (drop i b) → ws ≡ take n (drop j b) → word w ++ ws ≡ take (suc (suc n)) (drop i b)
+word_then w ws n b i j e h first rest =
+    let same : take n (drop j b) ≡ take n (drop (i + 2) b) = ap (λ k. take n (drop k b)) (sym e) in
+    let all = take_word n b i (omega arith) in
+    ap (λ z. z ++ ws) first ∙ ap (λ z. take 2 (drop i b) ++ z) (rest ∙ same) ∙ sym all
+
+-- a byte and the bytes behind it, put together
+pub byte_then : (ws : List ℕ) (n : ℕ) (b : List ℕ) (i j : ℕ) → i + 1 ≡ j → j ≤ length b → ws ≡ take n (drop j b) → get_or b i 0 ∷ ws ≡ take (suc n) (drop i b)
+byte_then ws n b i j e h rest =
+    let same : take n (drop j b) ≡ take n (drop (i + 1) b) = ap (λ k. take n (drop k b)) (sym e) in
+    ap (λ z. get_or b i 0 ∷ z) (rest ∙ same) ∙ sym (at_drop_more (take (suc n)) b i 0 (omega arith))
+
+-- a row among those that fit some bytes ends within them
+pub row_within : (i size n : ℕ) → i < n / size → i * size + size ≤ n
+row_within i size n h =
+    let times = mul-le-mul_right size h in
+    let whole = div-mul-le_self n size in
+    let more = suc-mul i size in
+    omega arith

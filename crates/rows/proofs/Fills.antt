@@ -1,5 +1,5 @@
 -- A loop that writes rows into the front of a table, one after the other.
-use Rattle.std.proofs.Common.{◌≡◌, ℕ, suc, ◌+◌, ◌*◌, ◌<◌, List, [], ◌∷◌, ◌++◌, length, get_or, take, drop, set, sym, ap, ◌∙◌, suc-mul, mul_comm, arith, take-add}
+use Rattle.std.proofs.Common.{◌≡◌, ℕ, suc, ◌+◌, ◌*◌, ◌<◌, List, [], ◌∷◌, ◌++◌, length, get_or, take, drop, set, sym, ap, ◌∙◌, suc-mul, mul_comm, arith, take-add, refl, zero-mul}
 use Rattle.std.proofs.lemmas.List.{drop-drop, drop-set-lt, flat_map_more, take_all, take-append-drop, take_more, take_more_set}
 use Rattle.std.specs.List.{flat_map}
 
@@ -36,3 +36,7 @@ filled_all written size part rows before table i done all long =
       sym (take-append-drop i table) ∙ ap (λ z. z ++ drop i table) (done.front ∙ whole) ∙ ap (λ z. rows ++ z) done.rest,
       ap (flat_map written) (sym whole) ∙ done.bytes ∙ take_all (i * size) part (omega arith),
     )
+
+pub filled_none : {R : Type 0} (written : R → List ℕ) (size : ℕ) (part : List ℕ) (rows table : List R) → Filled written size part rows table table 0
+filled_none written size part rows table =
+    record { front = refl; rest = refl; bytes = sym (ap (λ k. take k part) (zero-mul size)) }

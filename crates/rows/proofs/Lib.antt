@@ -2,3 +2,4 @@ pub mod Faults
 pub mod Files
 pub mod Fills
 pub mod Soundness
+pub mod Cuts

@@ -34,17 +34,17 @@ passed : (b : Bool) (e : Refusal) (o : Option Refusal) → cond b (Some e) o ≡
 passed true e o h = absurd (let z : ◌≡◌ {A = ℕ} 0 1 = cc in omega arith)
 passed false e o h = (refl, h)
 
-kept_from_none : (rules : List Rule) → first_broken rules ≡ None → Kept rules
+pub kept_from_none : (rules : List Rule) → first_broken rules ≡ None → Kept rules
 kept_from_none [] e = tt
 kept_from_none (rule ∷ rules) e =
     let h = passed rule.0 (refusal_no rule.1) (first_broken rules) e in (h.0, kept_from_none rules h.1)
 
-none_from_kept : (rules : List Rule) → Kept rules → first_broken rules ≡ None
+pub none_from_kept : (rules : List Rule) → Kept rules → first_broken rules ≡ None
 none_from_kept [] h = refl
 none_from_kept (rule ∷ rules) h =
     ap (λ b. cond b (Some (refusal_no rule.1)) (first_broken rules)) h.0 ∙ none_from_kept rules h.1
 
-fault_at_none : (w : Where) (o : Option Refusal) → fault_at w o ≡ None → o ≡ None
+pub fault_at_none : (w : Where) (o : Option Refusal) → fault_at w o ≡ None → o ≡ None
 fault_at_none w None h = refl
 fault_at_none w (Some e) h = absurd (let z : ◌≡◌ {A = ℕ} 0 1 = cc in omega arith)
 
@@ -293,3 +293,8 @@ checked_decides n p r e =
     told : (o : Option Fault) → not (is_some (refusal_told o)) ≡ not (is_some o)
     told None = refl
     told (Some _) = refl
+
+-- the same, at an answer that tells the verdict
+pub decides_from_verdict : (n : Counts) (p : PlanRows) (r : Bool) (o : Option Fault) → tables_fault (counts_of p) n (front n p) ≡ o → not (is_some o) ≡ r → Decides r (Fits n (counts_of p) × Sound (front n p))
+decides_from_verdict n p r o e t =
+    Decides-at r (not (is_some (tables_fault (counts_of p) n (front n p)))) (sym (ap (λ z. not (is_some z)) e ∙ t)) (verdict_decides n p)

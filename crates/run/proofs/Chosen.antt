@@ -9,7 +9,7 @@ use Rattle.runs.proofs.Offered.{offers_in_order}
 use Rattle.runs.proofs.Taking.{open_is}
 
 -- offers that are not none have one
-some_listed : (os rows : List Offer) → os ≡ rows → false ≡ (length rows == 0) → 1 ≤ length os
+pub some_listed : (os rows : List Offer) → os ≡ rows → false ≡ (length rows == 0) → 1 ≤ length os
 some_listed os rows e n = grind arith
 
 -- a list without offers is the empty one

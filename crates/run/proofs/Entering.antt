@@ -1,6 +1,6 @@
 -- Calls that are made and entered one after the other.
-use Rattle.std.proofs.Common.{◌≡◌, ℕ, ◌+◌, ◌<◌, List, [], ◌∷◌, ◌++◌, length, get_or, take, drop, sym, refl, ap, ◌∙◌, append_assoc, length-append}
-use Rattle.std.proofs.lemmas.List.{drop-drop, map-append, take_more}
+use Rattle.std.proofs.Common.{◌≡◌, ℕ, ◌+◌, ◌<◌, List, [], ◌∷◌, ◌++◌, length, get_or, take, drop, sym, refl, ap, ◌∙◌, append_assoc, length-append, ◌≤◌, append-nil, arith}
+use Rattle.std.proofs.lemmas.List.{drop-drop, map-append, take_more, length-map, length-take, take_all, length-drop}
 use Rattle.logs.specs.Logs.{entries_of, past_of}
 use Rattle.runs.specs.Plans.{Plan}
 use Rattle.runs.specs.Runs.{Call, Run, Scheduler, after, entry_after, make, told_of}
@@ -35,3 +35,21 @@ entered_then plan run₀ run₁ run₂ calls more log₀ log₁ log₂ h k =
 pub calls_more : {S : Type 0} (meaning : S → Scheduler) (calls : List (Call' S)) (i : ℕ) (call : Call' S) → i < length calls → call ≡ get_or calls i call → calls_of meaning (take i calls) ++ call_of meaning call ∷ [] ≡ calls_of meaning (take (i + 1) calls)
 calls_more meaning calls i call l e =
     sym (ap (calls_of meaning) (take_more calls i call l ∙ ap (λ x. take i calls ++ x ∷ []) (sym e)) ∙ map-append (call_of meaning) (take i calls) (call ∷ []))
+
+-- no call is made, and nothing is entered
+pub entered_none : (plan : Plan) (run : Run) (log : Log Entry) → Entered plan run run [] log log
+entered_none plan run log =
+    record { made = refl; new = []; entries = sym (append-nil (entries_of log)); told = refl; past = refl }
+
+-- some of the calls are as many as were made
+pub calls_made : {S : Type 0} (meaning : S → Scheduler) (calls : List (Call' S)) (i : ℕ) → i < length calls → length (calls_of meaning (take i calls)) ≡ i
+calls_made meaning calls i l = omega (arith, length-map (take i calls) (call_of meaning), length-take i calls)
+
+-- and at the end they are all
+pub calls_all : {S : Type 0} (meaning : S → Scheduler) (calls : List (Call' S)) (i : ℕ) → length calls ≤ i → calls_of meaning (take i calls) ≡ calls_of meaning calls
+calls_all meaning calls i l = ap (calls_of meaning) (take_all i calls l)
+
+-- after some of the calls that a log has room for, it has room for the next
+pub room_left : (plan : Plan) (run then : Run) (calls : List Call) (log log' : Log Entry) (n i : ℕ) → Entered plan run then calls log log' → length calls ≡ i → i < n → n ≤ length (past_of log) → 1 ≤ length (past_of log')
+room_left plan run then calls log log' n i h e l k =
+    omega (arith, ap length h.past, length-drop (length calls) (past_of log))

@@ -20,7 +20,7 @@ use Rattle.runs.proofs.Picking.{some_weight}
 use Rattle.runs.proofs.Plans.{sound_change}
 
 -- the outcomes of the change at the place c of stage i, from its row
-outcomes_are : (p : PlanRows) (i c : ℕ) (row : ChangeRow) (own : List OutcomeRow) → change_of_row p row ≡ change_of (plan_in p) i c → own ≡ listed row.first_outcome row.outcomes p.outcomes → map (outcome_of_row p) own ≡ (change_of (plan_in p) i c).outcomes
+pub outcomes_are : (p : PlanRows) (i c : ℕ) (row : ChangeRow) (own : List OutcomeRow) → change_of_row p row ≡ change_of (plan_in p) i c → own ≡ listed row.first_outcome row.outcomes p.outcomes → map (outcome_of_row p) own ≡ (change_of (plan_in p) i c).outcomes
 outcomes_are p i c row own e o = ap (map (outcome_of_row p)) o ∙ ap (λ (k : Change). k.outcomes) e
 
 -- their weights sum to a number from 1 to 65535
@@ -56,3 +56,23 @@ picked_place p i c row own g n found s h r o f k =
 pub outcome_at_place : (p : PlanRows) (i c : ℕ) (row : ChangeRow) (own : List OutcomeRow) (n : ℕ) {found : Option ℕ} → change_of_row p row ≡ change_of (plan_in p) i c → own ≡ listed row.first_outcome row.outcomes p.outcomes → found ≡ Some n → MatchOption found (Unit {0}) (λ k. k < length own) → outcome_of_row p (get_or own n no_outcome) ≡ get_or (change_of (plan_in p) i c).outcomes n blank_outcome
 outcome_at_place p i c row own n r o f l =
     sym (get_or-map (outcome_of_row p) own n no_outcome blank_outcome (place_there own n f l)) ∙ ap (λ os. get_or os n blank_outcome) (outcomes_are p i c row own r o)
+
+-- the same of any rows that are read as the outcomes of the change
+pub own_weights_allowed : (p : PlanRows) (i c : ℕ) (own : List OutcomeRow) → faultless p ≡ true → OfStage (plan_in p) i c → map (outcome_of_row p) own ≡ (change_of (plan_in p) i c).outcomes → (1 ≤ weights (map (outcome_of_row p) own)) × (weights (map (outcome_of_row p) own) ≤ 65535)
+own_weights_allowed p i c own s h e =
+    let sound = sound_change (plan_in p) (plan_sound p s) i c h in
+    let w = ap weights e in
+    (omega (arith, w, some_weight (plan_in p) (change_of (plan_in p) i c).outcomes sound.some_outcome sound.outcomes_sound), omega (arith, w, sound.weights_fit))
+
+-- the place that a draw picks among such rows
+pub own_place_picked : (p : PlanRows) (i c : ℕ) (own : List OutcomeRow) (g n : ℕ) (found : Option ℕ) → faultless p ≡ true → OfStage (plan_in p) i c → map (outcome_of_row p) own ≡ (change_of (plan_in p) i c).outcomes → found ≡ Some n → (1 ≤ weights (map (outcome_of_row p) own) → weights (map (outcome_of_row p) own) ≤ 65535 → found ≡ Some (picked (map (outcome_of_row p) own) (ticket g (weights (map (outcome_of_row p) own))))) → n ≡ picked_by g (change_of (plan_in p) i c)
+own_place_picked p i c own g n found s h e f k =
+    let w = own_weights_allowed p i c own s h e in
+    let there = k w.0 w.1 in
+    let same : n ≡ picked (map (outcome_of_row p) own) (ticket g (weights (map (outcome_of_row p) own))) = cc in
+    same ∙ ap (λ os. picked os (ticket g (weights os))) e
+
+-- and the outcome there
+pub own_outcome_at : (p : PlanRows) (i c : ℕ) (own : List OutcomeRow) (n : ℕ) → map (outcome_of_row p) own ≡ (change_of (plan_in p) i c).outcomes → n < length own → outcome_of_row p (get_or own n no_outcome) ≡ get_or (change_of (plan_in p) i c).outcomes n blank_outcome
+own_outcome_at p i c own n e l =
+    sym (get_or-map (outcome_of_row p) own n no_outcome blank_outcome l) ∙ ap (λ os. get_or os n blank_outcome) e

@@ -2,7 +2,7 @@
 use Rattle.std.proofs.Common.{◌≡◌, ℕ, ◌+◌, ◌*◌, ◌<◌, ◌≤◌, Bool, true, false, cond, ltb, leb, ◌⊎◌, ◌↔◌, List, [], ◌∷◌, length, get_or, drop, sym, refl, ◌∙◌, subst, inl, inr, arith}
 use Rattle.std.specs.List.{AllByRecursion}
 use Rattle.std.proofs.lemmas.List.{at_drop_more, at_drop_all}
-use Rattle.std.proofs.lemmas.Bool.{cases_Bool, and_parts, and_from, leb-true, ltb-true, le-leb, lt-ltb}
+use Rattle.std.proofs.lemmas.Bool.{cases_Bool, and_parts, and_from, leb-true, ltb-true, le-leb, lt-ltb, ltb-false}
 use Rattle.theory.specs.Settings.{reach}
 use Rattle.theory.specs.Records.{Record, record_of, count, timer_no}
 use Rattle.theory.specs.Regions.{Relation, AtLeast, Above, AtMost, Below, Says, Comparison, timer_against, lead_against, NamesBelow}
@@ -138,3 +138,6 @@ cuts_narrow r (c ∷ cs) x =
     let a = cut_narrows r c x in
     let b = cuts_narrow r cs (cut r c x) in
     subst (λ y. (x.from ≤ y.from) × (y.until ≤ x.until)) (sym (cuts_cons r c cs x)) (omega (arith, a.0, b.0), omega (arith, a.1, b.1))
+
+pub none_within : (d : ℕ) (x : Span) → any_in x ≡ false → Within d x → ⊥
+none_within d x e h = omega (arith, ltb-false x.from x.until e)

@@ -62,3 +62,13 @@ reset_made p bits {r} l h k =
 pub reset_bounds : (p : PlanRows) (bits : ℕ) {r r' : Record} {answer : Result (Unit {0}) Refusal} → bits < 2 ^ length p.timers → ∥ InBounds (plan_in p) r ∥₁ → reset_by bits r ≡ (answer, r') → ∥ InBounds (plan_in p) r' ∥₁
 reset_bounds p bits {r} l h k =
     ∥∥₁_elim h ∥∥₁_prop (λ b. ∣ subst (InBounds (plan_in p)) (sym (reset_made p bits l h k)) (reset_in_bounds (plan_in p) (marks (length p.timers) bits) r (length_marks (length p.timers) bits ∙ sym (as_many_rows p r h)) b) ∣₁)
+
+-- a reset keeps the region in bounds, whichever timers it names
+pub reset_keeps_bounds : (p : PlanRows) (bits : ℕ) (r r' : Record) → ∥ InBounds (plan_in p) r ∥₁ → r' ≡ reset (marks (length p.timers) bits) r → ∥ InBounds (plan_in p) r' ∥₁
+reset_keeps_bounds p bits r r' h e =
+    ∥∥₁_elim h ∥∥₁_prop (λ b. ∣ subst (InBounds (plan_in p)) (sym e) (reset_in_bounds (plan_in p) (marks (length p.timers) bits) r (length_marks (length p.timers) bits ∙ sym (as_many_rows p r h)) b) ∣₁)
+
+-- the waits that the guard of a change allows, as the code finds them
+pub span_for : (plan : Plan) (run : Run) (c last : ℕ) (change : Change) (x : Span) → last ≡ top plan run.stage run.region → change ≡ change_of plan run.stage c → x ≡ guard_span run.region last change.guard → x ≡ waits_for plan run c
+span_for plan run c last change x e f s =
+    s ∙ (ap (λ n. guard_span run.region n change.guard) e ∙ ap (λ (k : Change). guard_span run.region (top plan run.stage run.region) k.guard) f)

@@ -18,3 +18,4 @@ pub mod Examples
 pub mod Worked
 pub mod Tables
 pub mod Calls
+pub mod Own

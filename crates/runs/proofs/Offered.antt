@@ -179,3 +179,7 @@ offers_are_the_possible_changes =
       waits = λ plan i D v s h n. All-weaker (OfferOfStage plan i (record_of D v)) (λ o. (d : ℕ) → ((o.lowest ≤ d) × (d ≤ o.highest)) ↔ GuardTrueAt plan i D v o.change d) (offer_waits plan i D v s h n) (offers_at plan i (record_of D v)) (offers_of_stage plan i (record_of D v));
       ends = λ plan i D v s h n. All-weaker (OfferOfStage plan i (record_of D v)) (λ o. FirstAndLast (GuardTrueAt plan i D v o.change) o.lowest o.highest) (offer_ends plan i D v s h n) (offers_at plan i (record_of D v)) (offers_of_stage plan i (record_of D v));
     }
+
+pub offers_within_hold : (plan : Plan) (i : ℕ) (r : Record) → AllByRecursion (λ o. o.highest ≤ top plan i r) (offers_at plan i r)
+offers_within_hold plan i r =
+    All-weaker (OfferOfStage plan i r) (λ o. o.highest ≤ top plan i r) (λ o h. (offer_in_order plan i r o h).1) (offers_at plan i r) (offers_of_stage plan i r)

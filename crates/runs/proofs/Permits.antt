@@ -200,3 +200,8 @@ allowed_waits_are_true_moments = record { exactly = exactly; moments = moments; 
     by_record : (D : ℕ) (v : List ℕ) → 1 ≤ D → 1 ≤ length v → (d p q : ℕ) → 1 ≤ q → AtWait D v d p q ↔ (record_in D v p q ≡ wait d (record_of D v))
     by_record D v h n d p q k =
         (λ a. moments_are_waits D v h p q k ∙ ap (λ z. wait z (record_of D v)) a.its_wait, λ e. record { a_moment = k; its_wait = wait_injective (record_of D v) (reach D v p q) d (omega (arith, length_of D v)) (sym (moments_are_waits D v h p q k) ∙ e) })
+
+-- the hold interval is no longer than any timer's ceiling
+pub top_bounded : (plan : Plan) (i : ℕ) (r : Record) (j : ℕ) → j < length plan.ceilings → top plan i r ≤ 2 * r.classes * get_or plan.ceilings j 0
+top_bounded plan i r j h =
+    omega (arith, top_under plan i r, ceiling_wait_is plan r, room_under r (2 * r.classes * get_or plan.ceilings 0 0) 0 plan.ceilings j h)

@@ -28,7 +28,7 @@ is_of_stage_so plan i c h =
     and_from (leb (stage_of plan i).first c) (ltb c ((stage_of plan i).first + length (stage_of plan i).changes)) (le-leb (stage_of plan i).first c h.0) (lt-ltb c ((stage_of plan i).first + length (stage_of plan i).changes) h.1)
 
 -- what `making` opens to: a take meets the goal if that is on by the wait, and else it draws
-making_is : (plan : Plan) (run : Run) (c d : ℕ) → making plan run c d ≡ cond (goal_by plan run.stage run.region d) (Ok (Met d), at_goal run d) (drawing plan run c d (run.coming 0))
+pub making_is : (plan : Plan) (run : Run) (c d : ℕ) → making plan run c d ≡ cond (goal_by plan run.stage run.region d) (Ok (Met d), at_goal run d) (drawing plan run c d (run.coming 0))
 unfolding making
 making_is plan run c d = refl
 
@@ -60,7 +60,8 @@ by_stage plan run c d b = cond b (by_hold plan run c d (leb d (top plan run.stag
 abbrev by_standing : Plan → Run → ℕ → ℕ → Bool → Outturn
 by_standing plan run c d b = cond b (by_stage plan run c d (is_of_stage plan run.stage c)) (refused 8 run)
 
-take_call_is : (plan : Plan) (run : Run) (c d : ℕ) → take_call plan run c d ≡ by_standing plan run c d (is_open run.standing)
+-- what `take_call` opens to
+pub take_call_is : (plan : Plan) (run : Run) (c d : ℕ) → take_call plan run c d ≡ cond (is_open run.standing) (cond (is_of_stage plan run.stage c) (cond (leb d (top plan run.stage run.region)) (cond (inside d (waits_for plan run c)) (making plan run c d) (refused 11 run)) (refused 10 run)) (refused 9 run)) (refused 8 run)
 unfolding take_call
 take_call_is plan run c d = refl
 

@@ -11,7 +11,7 @@ use Rattle.runs.specs.declared.Answer.TheVariants.{Taken, Met, RanOut}
 use Rattle.runs.specs.declared.Standing.TheVariants.{Open, Reached, Stuck}
 use Rattle.runs.proofs.Tables.{plan_sound}
 
-blank_plan_is_sound : Sound blank_plan
+pub blank_plan_is_sound : Sound blank_plan
 blank_plan_is_sound =
     record { some_timer = omega arith; timers_run = (omega arith, tt); some_stage = omega arith; stages_sound = (record { hold_named = tt; changes_sound = tt }, tt); goal_named = tt }
 

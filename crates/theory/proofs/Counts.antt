@@ -1,5 +1,5 @@
 -- What a wait does to the counts of a record.
-use Rattle.std.proofs.Common.{◌≡◌, ℕ, zero, suc, ◌+◌, ◌*◌, ◌/◌, ◌%◌, ◌<◌, ◌≤◌, Bool, true, false, cond, eqb, map, length, get_or, sym, refl, ap, ◌∙◌, ap₂, arith}
+use Rattle.std.proofs.Common.{◌≡◌, ℕ, zero, suc, ◌+◌, ◌*◌, ◌/◌, ◌%◌, ◌<◌, ◌≤◌, Bool, true, false, cond, eqb, map, length, get_or, sym, refl, ap, ◌∙◌, ap₂, arith, List}
 use mathlib.Core.List.{map-map}
 use native.Mathlib.Nat.{div-add-mod}
 use lib.ListN.{length-map}
@@ -105,3 +105,14 @@ wait_by_single_steps (suc d) r h =
   where
     e : suc d ≡ d + 1
     e = omega arith
+
+-- after a wait the record is whole exactly if the counts are even
+pub whole_after_wait : (d : ℕ) (r : Record) (t : Timer) → (wait d r).whole ≡ eqb ((count r t + d) % 2) 0
+whole_after_wait d r t = wait_whole d r ∙ ap (λ n. eqb n 0) parity
+  where
+    parity : (edge r + d) % 2 ≡ (count r t + d) % 2
+    parity = omega arith
+
+-- a function that leaves each entry as it is leaves the list as it is
+pub map_itself : {A : Type 0} (f : A → A) (xs : List A) → AllByRecursion (λ x. f x ≡ x) xs → map f xs ≡ xs
+map_itself f xs h = map_fixed f xs (All-from_recursion _ xs h)

@@ -1,5 +1,5 @@
 -- Moments between ticks: every wait has its moment, and moments cross steps in order.
-use Rattle.std.proofs.Common.{◌≡◌, ℕ, zero, suc, ◌+◌, ◌-◌, ◌*◌, ◌/◌, ◌%◌, ◌<◌, ◌≤◌, ◌⊎◌, ◌↔◌, List, [], ◌∷◌, map, length, sym, refl, ap, ◌∙◌, ap₂, inl, inr, mul-le-mul_right, mul-pos, arith}
+use Rattle.std.proofs.Common.{◌≡◌, ℕ, zero, suc, ◌+◌, ◌-◌, ◌*◌, ◌/◌, ◌%◌, ◌<◌, ◌≤◌, ◌⊎◌, ◌↔◌, List, [], ◌∷◌, map, length, sym, refl, ap, ◌∙◌, ap₂, inl, inr, mul-le-mul_right, mul-pos, arith, mod-lt, mul-le-mul_left}
 use mathlib.Core.Path.{fun_ext}
 use mathlib.Core.List.{map-map}
 use native.Mathlib.Nat.{div-add-mod, add-mul-mod_self_right}
@@ -12,7 +12,7 @@ use Rattle.std.proofs.lemmas.List.Folds.{map_fixed}
 use Rattle.theory.specs.Settings.{total, held, later, finer, steps, reach}
 use Rattle.theory.specs.Records.{record_of, record_in, wait}
 use Rattle.theory.proofs.Totals.{total_zero, total_suc, total_le, position, position_seconds}
-use Rattle.theory.proofs.Held.{all_every, held_nil, held_here, held_map, held_none, held_bit, finer_one, finer_finer, finer_later}
+use Rattle.theory.proofs.Held.{all_every, held_nil, held_here, held_map, held_none, held_bit, finer_one, finer_finer, finer_later, later_later}
 use Rattle.theory.proofs.Waits.{steps_zero, steps_suc, ticks_add, ticks_are_a_wait, rank_below}
 use Rattle.theory.proofs.Finer.{record_of_finer}
 use Rattle.theory.proofs.Counts.{wait_injective}
@@ -165,3 +165,30 @@ waits_in_multiples g D v h d l e m n = (w.0, coarser g D v h d e m w.0 ∙ w.1)
     w : (p : ℕ) × (reach (D / (2 * g)) (map (λ c. c / (2 * g)) v) p 2 ≡ n)
     w =
         every_wait_in_half_ticks (D / (2 * g)) (map (λ c. c / (2 * g)) v) (coarser_fineness g D h d e) (omega (arith, length-map v (λ c. c / (2 * g)))) n
+
+-- and where t ticks cross at least d steps, that multiple lies less than g ticks past t
+pub waits_in_multiples_within : (g D : ℕ) (v : List ℕ) → 1 ≤ g → 1 ≤ D → D % (2 * g) ≡ 0 → AllByRecursion (λ c. c % (2 * g) ≡ 0) v → (t d : ℕ) → d ≤ steps D v t → (p : ℕ) × (g * p < t + g) × (steps D v (g * p) ≡ d)
+waits_in_multiples_within g D v h d e m t n l = (w.0, omega (arith, mul-le-mul_left g w.1, past.1), coarser g D v h d e m w.0 ∙ (steps_total (2 * (D / (2 * g))) (finer 2 (map (λ c. c / (2 * g)) v)) w.0 ∙ w.2))
+  where
+    past : (t ≤ g * ((t + (g - 1)) / g)) × (g * ((t + (g - 1)) / g) < t + g)
+    past =
+        (omega (arith, div-add-mod (t + (g - 1)) g, mod-lt (t + (g - 1)) h), omega (arith, div-add-mod (t + (g - 1)) g, mod-lt (t + (g - 1)) h))
+
+    w : (p : ℕ) × (p ≤ (t + (g - 1)) / g) × (total (crossed (2 * (D / (2 * g))) (finer 2 (map (λ c. c / (2 * g)) v))) p ≡ n)
+    w =
+        total_meets (crossed (2 * (D / (2 * g))) (finer 2 (map (λ c. c / (2 * g)) v))) (λ s. half_tick_crosses_one (D / (2 * g)) (map (λ c. c / (2 * g)) v) s (coarser_fineness g D h d e)) ((t + (g - 1)) / g) n (omega (arith, steps_total (2 * (D / (2 * g))) (finer 2 (map (λ c. c / (2 * g)) v)) ((t + (g - 1)) / g), coarser g D v h d e m ((t + (g - 1)) / g), steps_in_order D v t (g * ((t + (g - 1)) / g)) past.0))
+
+-- the steps of ticks one after another add up
+pub steps_add : (D : ℕ) (v : List ℕ) (s t : ℕ) → steps D v (s + t) ≡ steps D v s + steps D (later s v) t
+steps_add D v s zero = ap (steps D v) e ∙ f
+  where
+    e : s + 0 ≡ s
+    e = omega arith
+
+    f : steps D v s ≡ steps D v s + steps D (later s v) 0
+    f = omega (arith, steps_zero D (later s v))
+steps_add D v s (suc t) =
+    omega (arith, ap (steps D v) e, steps_suc D v (s + t), steps_suc D (later s v) t, ap (λ w. held D w (D - 1) + held D w 0) (later_later t s v), steps_add D v s t)
+  where
+    e : s + suc t ≡ suc (s + t)
+    e = omega arith

@@ -3,7 +3,8 @@ use Rattle.std.proofs.Common.{◌≡◌, ℕ, ◌+◌, ◌*◌, ◌/◌, ◌%◌
 use native.Mathlib.Nat.{add-mul-mod_self_left, mul-mod_right, zero-mod, div-add-mod}
 use Rattle.std.specs.List.{AllByRecursion}
 use Rattle.std.proofs.ByRecursion.{All-map, All-weaker}
-use Rattle.theory.specs.Settings.{later, marked, cleared}
+use Rattle.theory.specs.Settings.{later, marked, cleared, finer}
+use Rattle.theory.proofs.Held.{all_every}
 
 -- every timer has a multiple of g ticks
 abbrev pub Multiples : ℕ → List ℕ → Type 0
@@ -31,3 +32,12 @@ multiple_of_factor a g c h = ap (λ z. z % g) e ∙ mul-mod_right g (a * (c / (a
 pub multiples_of_factor : (a g : ℕ) (v : List ℕ) → Multiples (a * g) v → Multiples g v
 multiples_of_factor a g v h =
     All-weaker (λ c. c % (a * g) ≡ 0) (λ c. c % g ≡ 0) (λ c e. multiple_of_factor a g c e) v h
+
+pub finer_are_multiples : (g q : ℕ) (v : List ℕ) → Multiples g (finer (g * q) v)
+finer_are_multiples g q v = All-map (λ c. c % g ≡ 0) (λ c. g * q * c) v (all_every (λ c. (g * q * c) % g ≡ 0) v each)
+  where
+    each : (c : ℕ) → (g * q * c) % g ≡ 0
+    each c = ap (λ z. z % g) e ∙ mul-mod_right g (q * c)
+      where
+        e : g * q * c ≡ g * (q * c)
+        e = omega arith

@@ -10,7 +10,7 @@ use region::Region;
 use rows::refusal::Refusal;
 use rows::tables::{GoalRow, StageRow, TimerRow};
 use run::call::{Entry, Reply};
-use runs::{Answer, Standing, State};
+use runs::{Answer, Offer, Standing, State};
 use std::alloc::Global;
 use std::test::Fail;
 
@@ -77,6 +77,13 @@ fn an_entry_of_each_kind(rt: HostRuntime) -> Result<(), Fail> {
         )?
     );
     assert!(rt; shown(heap, Reply::Offered(OfferList::none()), "offers none")?);
+    let late = Offer {
+        change: 3,
+        lowest: 8,
+        highest: 12,
+    };
+    let list = OfferList::of(&[Offer::default(), late]).unwrap();
+    assert!(rt; shown(heap, Reply::Offered(list), "offers 0:0-0 3:8-12")?);
     assert!(rt; shown(heap, Reply::Offered(two_of_three()), "offers 0:0-0 2:8-12")?);
     assert!(rt; shown(heap, Reply::Stands(Standing::Failed), "standing failed")?);
     Ok(())

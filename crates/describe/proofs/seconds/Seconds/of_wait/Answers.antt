@@ -12,7 +12,7 @@ returns c =
     let d = c.greatest_common-common.result in
     let all = lowest c.args.steps per d (some c) c.greatest_common-common.ensures in
     record {
-      same_time = ap (λ z. (c.args.steps / per * (per / d) + c.args.steps % per / d) * z) (sym c.steps_per_second-per_second.ensures.steps) ∙ all.0;
-      proper = all.1;
-      lowest = all.2;
+      same_time = ap (λ z. (c.args.steps / per * (per / d) + c.args.steps % per / d) * z) (sym c.steps_per_second-per_second.ensures.steps) ∙ all.1;
+      proper = all.2;
+      lowest = all.3;
     }
