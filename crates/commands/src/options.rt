@@ -15,8 +15,9 @@ use anyhow::{Context, anyhow};
 use batch::{LARGEST, Limits, MOST_IDENTIFIERS};
 use clap::ArgMatches;
 use describe::calls::named_scheduler;
-use describe::identifiers::{identifiers, listed_twice};
+use describe::identifiers::identifiers;
 use describe::numbers::number;
+use describe::repeats::first_repeat;
 use draws::tape::LONGEST_ROW;
 use schedulers::chooser::Chooser;
 use std::alloc::Global;
@@ -95,7 +96,7 @@ fn listed_once(heap: Global, word: &str) -> anyhow::Result<Vec<u32>>
             MOST_IDENTIFIERS
         ));
     };
-    match listed_twice(&identifiers) {
+    match first_repeat(heap, &identifiers) {
         Some(twice) => Err(anyhow!("--identifiers lists {twice} twice: '{word}'")),
         None => Ok(identifiers),
     }

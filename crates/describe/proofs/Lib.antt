@@ -1,6 +1,7 @@
 pub mod FirstWords
 pub mod GreatestLoss
 pub mod Identified
+pub mod InOrder
 pub mod Inclusive
 pub mod LineByLine
 pub mod Lowest

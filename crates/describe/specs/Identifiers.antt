@@ -1,5 +1,5 @@
 -- Which numbers a word lists.
-use Rattle.std.specs.Prelude.{◌≡◌, ℕ, ◌+◌, ◌-◌, ◌<◌, ◌≤◌, ◌⊎◌, List, ◌++◌, ◌==◌, Some, codes, length, slice_get}
+use Rattle.std.specs.Prelude.{◌≡◌, ℕ, ◌+◌, ◌-◌, ◌<◌, ◌≤◌, ◌⊎◌, List, ◌++◌, ◌==◌, Some, codes, length, slice_get, take}
 use Rattle.std.specs.List.{range_with_len, slice_split}
 use Rattle.describe.specs.Words.{WriteAll, Writes}
 
@@ -36,3 +36,9 @@ IsListedTwice numbers n =
 -- no number stands at two places of a list
 abbrev pub AllDiffer : List ℕ → Type 0
 AllDiffer numbers = (n : ℕ) → IsListedTwice numbers n → ⊥
+
+-- a number stands at two places of a list, and before the later of them none does
+abbrev pub IsFirstRepeat : List ℕ → ℕ → Type 0
+IsFirstRepeat numbers n =
+    (i : ℕ) × (j : ℕ) × (i < j) × (slice_get numbers i ≡ Some n) × (slice_get numbers j ≡ Some n)
+    × AllDiffer (take j numbers)

@@ -6,6 +6,7 @@ pub mod Kinds
 pub mod Losses
 pub mod Names
 pub mod Numbers
+pub mod Repeats
 pub mod Shares
 pub mod LossWarnings
 pub mod Words

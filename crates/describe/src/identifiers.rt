@@ -1,6 +1,6 @@
 // Identifiers of schedulers in words: `0..9`, or `3,5,8`.
 ghost use Rattle.std.specs.Prelude.{◌≡◌, ℕ, ◌<◌, ◌≤◌, List, length, IfOk, MatchOption};
-ghost use Rattle.describe.specs.Identifiers.{AllDiffer, IsListedTwice, Lists, numbers_from_to};
+ghost use Rattle.describe.specs.Identifiers.{AllDiffer, IsFirstRepeat, Lists, numbers_from_to};
 ghost use Rattle.describe.specs.Identifiers.{parts_of};
 ghost use Rattle.describe.specs.Words.{WriteAll};
 
@@ -37,8 +37,9 @@ fn listed(heap: Global, word: &str) -> Result<Option<Vec<u32>>, AllocError>
     Ok(Some(identifiers))
 }
 
-// The identifiers that a word names, at most as many as a batch may have: from the first to the last, or a list with commas.
-// That a word names none is no error: the one error is that memory is out.
+// The identifiers that a word names, at most as many as a batch may have: from the first to the
+// last, or a list with commas. That a word names none is no error: the one error is that memory
+// is out.
 pub fn identifiers(heap: Global, word: &str) -> Result<Option<Vec<u32>>, AllocError>
     ensures { IfOk result (λ o. MatchOption o ((ids : List ℕ) → Lists word.now ids → ⊥)
         (λ v. Lists word.now v.items)) }
@@ -52,9 +53,10 @@ pub fn identifiers(heap: Global, word: &str) -> Result<Option<Vec<u32>>, AllocEr
     }
 }
 
-// The first identifier that also stands at an earlier place of the list, if one does.
+// The first identifier that also stands at an earlier place of the list, if one does. Each is
+// looked for among those before it, which takes no memory.
 pub fn listed_twice(identifiers: &[u32]) -> Option<u32>
-    ensures { MatchOption result (AllDiffer identifiers.now) (IsListedTwice identifiers.now) }
+    ensures { MatchOption result (AllDiffer identifiers.now) (IsFirstRepeat identifiers.now) }
 {
     for i in 0..identifiers.len() {
         if identifiers[..i].contains(&identifiers[i]) {

@@ -20,6 +20,7 @@ pub mod offered;
 pub mod plan_warning;
 pub mod plans;
 pub mod regions;
+pub mod repeats;
 mod seconds;
 pub mod shares;
 pub mod tables;

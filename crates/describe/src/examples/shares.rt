@@ -1,5 +1,6 @@
 // Shares and half-widths in percent, and lists that name an identifier twice.
 use crate::identifiers::listed_twice;
+use crate::repeats::first_repeat;
 use crate::shares::{HalfWidth, Share};
 use std::test::Fail;
 
@@ -58,5 +59,27 @@ fn identifiers_listed_twice(rt: HostRuntime) -> Result<(), Fail> {
     assert_eq!(rt; listed_twice(&[3, 5, 8]), None);
     assert_eq!(rt; listed_twice(&[3, 5, 5, 3]), Some(5));
     assert_eq!(rt; listed_twice(&[3, 5, 8, 3]), Some(3));
+    Ok(())
+}
+
+#[test]
+fn first_repeats_of_lists(rt: HostRuntime) -> Result<(), Fail> {
+    assert_eq!(rt; first_repeat(rt.alloc(), &[]), None);
+    assert_eq!(rt; first_repeat(rt.alloc(), &[7]), None);
+    assert_eq!(rt; first_repeat(rt.alloc(), &[8, 3, 5, 4294967295, 0]), None);
+    assert_eq!(rt; first_repeat(rt.alloc(), &[3, 5, 5, 3]), Some(5));
+    assert_eq!(rt; first_repeat(rt.alloc(), &[3, 5, 8, 3]), Some(3));
+    assert_eq!(rt; first_repeat(rt.alloc(), &[9, 1, 9, 1, 9]), Some(9));
+    assert_eq!(rt; first_repeat(rt.alloc(), &[0, 0]), Some(0));
+    Ok(())
+}
+
+#[test]
+fn a_repeat_at_the_end_of_a_long_list(rt: HostRuntime) -> Result<(), Fail> {
+    let mut identifiers: Vec<u32> = (4294966296..=4294967295).rev().collect(rt.alloc())?;
+    assert_eq!(rt; identifiers.len(), 1000);
+    assert_eq!(rt; first_repeat(rt.alloc(), &identifiers), None);
+    identifiers.push(4294967295)?;
+    assert_eq!(rt; first_repeat(rt.alloc(), &identifiers), Some(4294967295));
     Ok(())
 }
