@@ -229,7 +229,7 @@ fn print_batch(
 
 // Runs a batch. The file of its rows is not the plan's.
 pub fn run_batch(rt: &HostRuntime, given: &ArgMatches<'_>) -> Result<(), Failure> {
-    let options = Options::of(rt.alloc(), Command::Batch, given).map_err(Failure::Words)?;
+    let options = Options::of(rt.alloc(), Command::Batch, given)?;
     let plan = file_of(given, "PLAN");
     let shown = Shown::of(given);
     if shown.csv == Some(plan) || shown.csv.is_some() && shown.csv == given.get_str("tape") {

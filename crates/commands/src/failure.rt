@@ -1,5 +1,5 @@
 // Why a command was not carried out.
-use std::alloc::AllocError;
+use std::alloc::{AllocError, AllocFailed};
 use std::io;
 
 // The line is wrong by its form, or a word by what it says; or the work failed.
@@ -19,6 +19,12 @@ impl From<anyhow::Error> for Failure {
 impl From<io::Error> for Failure {
     fn from(error: io::Error) -> Failure {
         Failure::Work(anyhow::Error::from(error))
+    }
+}
+
+impl<T: Drop> From<AllocFailed<T>> for Failure {
+    fn from(_error: AllocFailed<T>) -> Failure {
+        Failure::from(AllocError)
     }
 }
 

@@ -57,7 +57,7 @@ fn print_history(rt: &HostRuntime, path: &str, options: &Options) -> anyhow::Res
 
 // Runs a plan by a scheduler.
 pub fn run_plan(rt: &HostRuntime, given: &ArgMatches<'_>) -> Result<(), Failure> {
-    let options = Options::of(rt.alloc(), Command::Run, given).map_err(Failure::Words)?;
+    let options = Options::of(rt.alloc(), Command::Run, given)?;
     print_history(rt, file_of(given, "PLAN"), &options)?;
     Ok(())
 }

@@ -15,13 +15,17 @@ mod sources;
 mod walk;
 mod words;
 
-ghost use Rattle.std.specs.Prelude.{◌≡◌, IfErr, IfOk, is_ok};
+ghost use Rattle.std.specs.Prelude.{◌≡◌, ◌≢◌, IfErr, IfOk, is_ok};
+ghost use Rattle.clap.specs.Words.{kind_of};
+ghost use Rattle.clap.specs.declared.error.kind.ErrorKind.TheVariants.{OutOfMemory};
 ghost use Rattle.commands.specs.Failures.{IsStatusOf, IsWrongLine};
 ghost use Rattle.commands.specs.declared.failure.Failure.TheVariants.{Line};
 
 use crate::failure::Failure;
 use crate::line::command_line;
 use crate::words::given_words;
+use clap::error::ErrorKind;
+use std::alloc::AllocError;
 use std::io;
 
 // What comes of help that was to be printed. Where it is not written, the work failed.
@@ -41,8 +45,13 @@ fn print_help(rt: &HostRuntime, asked: clap::Error) -> Result<(), Failure>
     ensures help_is_no_wrong_line { IfErr result (λ failure. (IsWrongLine asked → ⊥)
         → IsStatusOf failure 1) }
     ensures a_wrong_line_is_told { IfErr result (λ failure. IsWrongLine asked
-        → failure ≡ Line asked) }
+        → kind_of asked ≢ OutOfMemory → failure ≡ Line asked) }
+    ensures memory_that_is_out_is_failed_work { IfErr result (λ failure.
+        kind_of asked ≡ OutOfMemory → IsStatusOf failure 1) }
 {
+    if let ErrorKind::OutOfMemory = asked.kind() {
+        return Err(Failure::Work(anyhow::Error::from(AllocError)));
+    }
     if asked.use_stderr() {
         return Err(Failure::Line(asked));
     }
@@ -80,6 +89,6 @@ pub fn answer(rt: &HostRuntime, words: &[String]) -> u8 {
 pub fn answer_line(rt: &HostRuntime) -> u8 {
     match given_words(rt) {
         Ok(words) => answer(rt, &words),
-        Err(error) => Failure::Words(error).told(rt),
+        Err(failure) => failure.told(rt),
     }
 }

@@ -10,6 +10,7 @@ ghost use Rattle.commands.specs.Options.{DrawsFor, GoesBy, LimitsFor, ListFor, N
 ghost use Rattle.commands.specs.Options.{NumberOr, RuleFor, SchedulerFor, draws_asked, said};
 
 use crate::command::Command;
+use crate::failure::Failure;
 use crate::sources::{Draws, Rule};
 use anyhow::{Context, anyhow};
 use batch::{LARGEST, Limits, MOST_IDENTIFIERS};
@@ -87,23 +88,23 @@ fn scheduler_of(given: &ArgMatches<'_>) -> anyhow::Result<Chooser>
 }
 
 // The identifiers that a word lists, none of them twice.
-fn listed_once(heap: Global, word: &str) -> anyhow::Result<Vec<u32>>
+fn listed_once(heap: Global, word: &str) -> Result<Vec<u32>, Failure>
     ensures { IfOk result (λ ids. Lists word.now ids.items × AllDiffer ids.items) }
 {
     let Some(identifiers) = identifiers(heap, word)? else {
-        return Err(anyhow!(
+        return Err(Failure::Words(anyhow!(
             "--identifiers takes FIRST..LAST or a list as 3,5,8, at most {} of them, not '{word}'",
             MOST_IDENTIFIERS
-        ));
+        )));
     };
     match first_repeat(heap, &identifiers) {
-        Some(twice) => Err(anyhow!("--identifiers lists {twice} twice: '{word}'")),
+        Some(twice) => Err(Failure::Words(anyhow!("--identifiers lists {twice} twice: '{word}'"))),
         None => Ok(identifiers),
     }
 }
 
 // The identifiers that are listed, or the first ten.
-fn identifiers_of(heap: Global, given: &ArgMatches<'_>) -> anyhow::Result<Vec<u32>>
+fn identifiers_of(heap: Global, given: &ArgMatches<'_>) -> Result<Vec<u32>, Failure>
     ensures { IfOk result (λ ids. ListFor (said given.now (codes "identifiers")) ids.items) }
 {
     match given.get_str("identifiers") {
@@ -151,16 +152,17 @@ fn draws(
 }
 
 // The draws that are asked for.
-fn draws_of(heap: Global, given: &ArgMatches<'_>) -> anyhow::Result<Draws<String>>
+fn draws_of(heap: Global, given: &ArgMatches<'_>) -> Result<Draws<String>, Failure>
     ensures { IfOk result (DrawsFor given.now) }
 {
     let tape = match given.get_str("tape") {
         None => None,
         Some(path) => Some(String::from_str(heap, path)?),
     };
-    let seed = number_of(given, "seed", 0, u32::MAX)?;
-    let row_length = number_of(given, "row-length", 1, LONGEST_ROW)?;
-    draws(rule_of(given)?, seed, tape, row_length)
+    let seed = number_of(given, "seed", 0, u32::MAX).map_err(Failure::Words)?;
+    let row_length = number_of(given, "row-length", 1, LONGEST_ROW).map_err(Failure::Words)?;
+    let rule = rule_of(given).map_err(Failure::Words)?;
+    draws(rule, seed, tape, row_length).map_err(Failure::Words)
 }
 
 // The limits of runs.
@@ -181,15 +183,15 @@ fn limits_of(command: Command, given: &ArgMatches<'_>) -> anyhow::Result<Limits>
 
 impl Options {
     // What a command goes by, from the options that it is given.
-    pub fn of(heap: Global, command: Command, given: &ArgMatches<'_>) -> anyhow::Result<Options>
+    pub fn of(heap: Global, command: Command, given: &ArgMatches<'_>) -> Result<Options, Failure>
         ensures { IfOk result (GoesBy given.now command) }
     {
         Ok(Options {
             draws: draws_of(heap, given)?,
-            row: number_or(0, given, "row", 0, u32::MAX)?,
-            scheduler: scheduler_of(given)?,
+            row: number_or(0, given, "row", 0, u32::MAX).map_err(Failure::Words)?,
+            scheduler: scheduler_of(given).map_err(Failure::Words)?,
             identifiers: identifiers_of(heap, given)?,
-            limits: limits_of(command, given)?,
+            limits: limits_of(command, given).map_err(Failure::Words)?,
         })
     }
 }

@@ -120,7 +120,7 @@ fn print_replies(
 
 // Makes the calls of a file.
 pub fn replay_file(rt: &HostRuntime, given: &ArgMatches<'_>) -> Result<(), Failure> {
-    let options = Options::of(rt.alloc(), Command::Replay, given).map_err(Failure::Words)?;
+    let options = Options::of(rt.alloc(), Command::Replay, given)?;
     print_replies(
         rt,
         file_of(given, "PLAN"),

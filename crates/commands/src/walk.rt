@@ -85,27 +85,27 @@ const MOST_MOVES: usize = 10_000;
 
 // The moves that words ask for, two words each. Words that ask for none are told with their place.
 #[tactic(auto, using(crate::proofs::Moves::one_move_more, crate::proofs::Moves::all_moves))]
-fn moves_for(heap: Global, words: &[&str]) -> anyhow::Result<Vec<Move>>
+fn moves_for(heap: Global, words: &[&str]) -> Result<Vec<Move>, Failure>
     ensures asked { IfOk result (λ ms. AskMoves (map (λ w. w.now) words.now) ms.items) }
     ensures few { IfOk result (λ ms. length ms.items ≤ 10000) }
 {
     let mut moves = Vec::new(heap);
     let many = words.len() / 2;
     if many > MOST_MOVES {
-        return Err(anyhow!("a walk has at most {MOST_MOVES} moves, not {many}"));
+        return Err(Failure::Words(anyhow!("a walk has at most {MOST_MOVES} moves, not {many}")));
     }
     for place in 0..words.len() / 2 {
         let name = words[2 * place];
         let value = words[2 * place + 1];
         let number = place + 1;
-        let asked = parsed(name, value).context(format_args!(
-            "move {number}, '{name} {value}', is none: {A_MOVE}"
-        ))?;
+        let asked = parsed(name, value)
+            .context(format_args!("move {number}, '{name} {value}', is none: {A_MOVE}"))
+            .map_err(Failure::Words)?;
         moves.push(asked)?;
     }
     if words.len() % 2 == 1 {
         let word = words[words.len() - 1];
-        return Err(anyhow!("the last word, '{word}', has no value: {A_MOVE}"));
+        return Err(Failure::Words(anyhow!("the last word, '{word}', has no value: {A_MOVE}")));
     }
     Ok(moves)
 }
@@ -155,7 +155,7 @@ fn print_walk(rt: &HostRuntime, path: &str, moves: &[Move]) -> anyhow::Result<()
 // Walks a plan's timers from zero. All moves are read before any is made.
 pub fn regions(rt: &HostRuntime, given: &ArgMatches<'_>) -> Result<(), Failure> {
     let words = given.get_strs("MOVE").unwrap_or(&[]);
-    let moves = moves_for(rt.alloc(), words).map_err(Failure::Words)?;
+    let moves = moves_for(rt.alloc(), words)?;
     print_walk(rt, file_of(given, "PLAN"), &moves)?;
     Ok(())
 }

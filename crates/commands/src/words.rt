@@ -1,4 +1,5 @@
 // The words of the command line.
+use crate::failure::Failure;
 use anyhow::anyhow;
 use std::env::{Env, FillError};
 use std::{env, str};
@@ -27,12 +28,14 @@ fn first_no_text(rt: &HostRuntime) -> Option<usize> {
 }
 
 // The words of the command line, the first of which is the program's name.
-pub fn given_words(rt: &HostRuntime) -> anyhow::Result<Vec<String>> {
+pub fn given_words(rt: &HostRuntime) -> Result<Vec<String>, Failure> {
     match env::args(rt) {
         Ok(words) => Ok(words.collect(rt.alloc())?),
         Err(error) => match first_no_text(rt) {
-            Some(place) => Err(anyhow!("word {place} of the command line is no text (UTF-8)")),
-            None => Err(anyhow::Error::from(error)),
+            Some(place) => Err(Failure::Words(anyhow!(
+                "word {place} of the command line is no text (UTF-8)"
+            ))),
+            None => Err(Failure::from(error)),
         },
     }
 }
