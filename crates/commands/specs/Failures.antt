@@ -6,7 +6,7 @@ use Rattle.clap.specs.declared.error.kind.ErrorKind.TheVariants.{DisplayHelp, Di
 use Rattle.commands.specs.declared.failure.Failure.{Failure}
 use Rattle.commands.specs.declared.failure.Failure.TheVariants.{Line, Words, Work}
 
--- neither help nor the version was asked for, so the line itself is wrong
+-- neither help nor the version was asked for: the line itself is wrong, or memory was out
 abbrev pub IsWrongLine : Error → Type 0
 IsWrongLine e = (kind_of e ≢ DisplayHelp) × (kind_of e ≢ DisplayVersion)
 

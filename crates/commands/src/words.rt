@@ -2,7 +2,7 @@
 use crate::failure::Failure;
 use anyhow::anyhow;
 use std::env::{Env, FillError};
-use std::{env, str};
+use std::{env, io, str};
 
 // How long an argument may be to be looked at where another is no text.
 const LONGEST: usize = 4096;
@@ -27,15 +27,23 @@ fn first_no_text(rt: &HostRuntime) -> Option<usize> {
     None
 }
 
+// Why the words are not read: one of them is no text, or memory is out.
+fn unread(rt: &HostRuntime, error: io::Error) -> Failure {
+    if error.kind() == io::ErrorKind::OutOfMemory {
+        return Failure::from(error);
+    }
+    match first_no_text(rt) {
+        Some(place) => Failure::Words(anyhow!(
+            "word {place} of the command line is no text (UTF-8)"
+        )),
+        None => Failure::Words(anyhow::Error::from(error)),
+    }
+}
+
 // The words of the command line, the first of which is the program's name.
 pub fn given_words(rt: &HostRuntime) -> Result<Vec<String>, Failure> {
     match env::args(rt) {
         Ok(words) => Ok(words.collect(rt.alloc())?),
-        Err(error) => match first_no_text(rt) {
-            Some(place) => Err(Failure::Words(anyhow!(
-                "word {place} of the command line is no text (UTF-8)"
-            ))),
-            None => Err(Failure::from(error)),
-        },
+        Err(error) => Err(unread(rt, error)),
     }
 }
